@@ -54,7 +54,7 @@ pub impl Amount for Whole as WholeAmount {
     }
 
     fn weight(self) -> u64 {
-        self.number
+        self.number // its own weight
     }
 
     fn words(self) -> (u64, u64) {

@@ -70,8 +70,8 @@ module _ (table : List Place) (count : ℕ) (room : count ≤ length table) (ord
         let f : suc (middle seen) ≡ (t - s - 1) / 2 + 1 = omega (arith, middle-seen) in
         ap (λ n. balance n ((t - s - 1) / 2 + 1) 0 seen) (sym e)
         ∙ (ap (λ n. balance (upper seen) n 0 seen) (sym f)
-          ∙ (balance-middle seen up (omega (arith, length-seen))
-            ∙ ap pos (same .sums (distance (middle-of seen)) ∙ ap (λ m. distances m layer) (sym level-seen))))
+        ∙ (balance-middle seen up (omega (arith, length-seen))
+        ∙ ap pos (same .sums (distance (middle-of seen)) ∙ ap (λ m. distances m layer) (sym level-seen))))
 
   -- one reading more
   module _ (x : ℤ) (more : count < length table) where
@@ -111,5 +111,5 @@ module _ (table : List Place) (count : ℕ) (room : count ≤ length table) (ord
         let k : (count + 1) + (c - (count + 1)) ≡ c = omega arith in
         ap (λ n. drop n after) (sym k)
         ∙ (sym (drop-drop (c - (count + 1)) (count + 1) after)
-          ∙ (ap (drop (c - (count + 1))) (drop-at front (drop (count + 1) table) (count + 1) length-more)
-            ∙ (drop-drop (c - (count + 1)) (count + 1) table ∙ ap (λ n. drop n table) k)))
+        ∙ (ap (drop (c - (count + 1))) (drop-at front (drop (count + 1) table) (count + 1) length-more)
+        ∙ (drop-drop (c - (count + 1)) (count + 1) table ∙ ap (λ n. drop n table) k)))

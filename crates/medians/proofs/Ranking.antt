@@ -121,6 +121,7 @@ readings-ranked = push-ind (λ h. readings-upto (length h) (ranked h) ≡ h) sta
   where
     start : readings-upto 0 (ranked []) ≡ []
     start = refl
+
     more : (h : List ℤ) (x : ℤ) → readings-upto (length h) (ranked h) ≡ h → readings-upto (length (h ++ (x ∷ []))) (ranked (h ++ (x ∷ []))) ≡ h ++ (x ∷ [])
     more h x e =
         let n : length (h ++ (x ∷ [])) ≡ suc (length h) = omega (arith, length-push h x) in
@@ -172,7 +173,7 @@ rising-with p (q ∷ qs) r =
     ⊎-elim
     (λ e. subst (λ l. Rising (readings l)) (sym (with-behind-at b n p q qs e)) (
       all-readings (λ y. q .reading ≤ℤ y) (ranked-with p qs)
-      (all-ranked-with (λ x. q .reading ≤ℤ x .reading) p qs (leZ-le _ _ e) (readings-all (λ y. q .reading ≤ℤ y) qs (r .0))),
+          (all-ranked-with (λ x. q .reading ≤ℤ x .reading) p qs (leZ-le _ _ e) (readings-all (λ y. q .reading ≤ℤ y) qs (r .0))),
       rising-with p qs (r .1),
     ))
     (λ e. let le = leZ-gt _ _ e in subst (λ l. Rising (readings l)) (sym (with-before-at b n p q qs e)) ((le, le-chain (p .reading) (q .reading) (readings qs) le (r .0)), r))

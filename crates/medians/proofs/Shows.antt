@@ -8,7 +8,6 @@ use lib.IntN.{ℤ, pos}
 use lib.ListN.{length, take, drop, length-append}
 use Rattle.std.specs.shelf.Lists.{All, sumBy, kept-by}
 use Rattle.std.proofs.shelf.Elements.{all-weaker}
-use Rattle.std.proofs.shelf.Lists.{take-all}
 use Rattle.std.proofs.shelf.Sums.{sumBy-append, sumBy-le}
 use Rattle.std.proofs.shelf.Tests.{le-leb}
 use Rattle.amounts.specs.Kinds.{whole-kind}
@@ -16,15 +15,13 @@ use Rattle.charges.specs.Rules.{ChargeLaws, Layable, segment}
 use Rattle.charges.proofs.Lawful.{all-from-lawful}
 use Rattle.readings.specs.Numbers.{number-reading}
 use Rattle.readings.proofs.Ranges.{number-apart}
+use Rattle.readings.proofs.Segments.{segment-all}
 use Rattle.medians.specs.Medians.{distance, distances, half-upto, lowest, median, median-rules}
 use Rattle.medians.specs.Ranks.{ranked}
 use Rattle.medians.specs.Walks.{picked}
 use Rattle.medians.proofs.Rising.{In, in-all, kept-in, lowest-in}
 use Rattle.medians.proofs.Middles.{Same, same-length, middle-of, median-middle, kept-middle, middle-least}
 use Rattle.medians.proofs.Ranking.{same-picked, rising-picked}
-
-segment-all : (u : List ℤ) → segment u 0 (length u) ≡ u
-segment-all u = take-all (length u - 0) u (omega arith)
 
 -- the whole list in rising order
 abbrev sorted : List ℤ → List ℤ

@@ -67,7 +67,7 @@ module _ (ps : List Place) (s t i : ℕ) (lt : i < length ps) where
   picked-split =
       ap (picked s t) (sym (take-append-drop (i + 1) ps))
       ∙ (ap (map (λ p. p .reading)) (kept-by-append inside (take (i + 1) ps) (drop (i + 1) ps))
-        ∙ map-append (λ p. p .reading) (kept-by inside (take (i + 1) ps)) (kept-by inside (drop (i + 1) ps)))
+      ∙ map-append (λ p. p .reading) (kept-by inside (take (i + 1) ps)) (kept-by inside (drop (i + 1) ps)))
 
   pub picked-found : (n : ℕ) → n ≡ length (picked s t (take i ps)) → inside here ≡ true → getD (picked s t ps) n (pos 0) ≡ here .reading
   picked-found n e h =
@@ -114,7 +114,7 @@ module _ (low high seen : ℕ) (front : List ℤ) (y a b : ℤ) (was : a ≡ bal
   balance-more next e n =
       ap (λ z. z +ℤ b) was
       ∙ (ap (λ z. balance low high 0 front +ℤ z) (adds ∙ ap (λ k. share low high k y) n)
-        ∙ (sym (balance-push low high front y) ∙ ap (balance low high 0) (sym e)))
+      ∙ (sym (balance-push low high front y) ∙ ap (balance low high 0) (sym e)))
 
   pub balance-fits : All (λ z. number-reading z ≡ true) front → length front ≤ 1024 → number-reading y ≡ true → SFits w64 (a +ℤ b)
   balance-fits all few h =
@@ -145,14 +145,14 @@ module _ (old : List Place) (from : ℕ) (p : Place) (within : from ≤ length o
     shift-more e =
         ap (λ l. set l i moved) table-is
         ∙ (set-at (take i new) (getD old i nowhere) (drop (i + 1) old) moved i front-length
-          ∙ (sym (append-assoc (take i new) (moved ∷ []) (drop (i + 1) old))
-            ∙ ap (λ l. l ++ drop (i + 1) old) (ap (λ q. take i new ++ (q ∷ [])) e ∙ sym (take-more new i p (omega (arith, length-inserted old from p within))))))
+        ∙ (sym (append-assoc (take i new) (moved ∷ []) (drop (i + 1) old))
+        ∙ ap (λ l. l ++ drop (i + 1) old) (ap (λ q. take i new ++ (q ∷ [])) e ∙ sym (take-more new i p (omega (arith, length-inserted old from p within))))))
 
     pub shift-next : getD table i nowhere ≡ getD new (i + 1) p
     shift-next =
         ap (λ l. getD l i nowhere) table-is
         ∙ (getD-at (take i new) (getD old i nowhere) (drop (i + 1) old) nowhere i front-length
-          ∙ (getD-default old i nowhere p lt ∙ sym (getD-inserted-above old from p p i high within)))
+        ∙ (getD-default old i nowhere p lt ∙ sym (getD-inserted-above old from p p i high within)))
 
 -- the first places with one put in among them
 pub take-put-in : (old : List Place) (i n : ℕ) (p : Place) → i ≤ n → take (suc n) (inserted old i p) ≡ inserted (take n old) i p
@@ -170,4 +170,4 @@ put-in-ranks old count i x y e f =
     ap (λ l. l ++ drop (count + 1) old)
     (ap (λ k. take k (inserted old i (place y count))) (add-one count)
     ∙ (take-put-in old i count (place y count) (rank-upto old count i y f)
-      ∙ (ap (λ k. inserted (take count old) k (place y count)) (f ∙ ap (λ k. rank y (take k old)) n) ∙ ap (λ z. ranked-with (place z count) (take count old)) e)))
+    ∙ (ap (λ k. inserted (take count old) k (place y count)) (f ∙ ap (λ k. rank y (take k old)) n) ∙ ap (λ z. ranked-with (place z count) (take count old)) e)))

@@ -1,5 +1,121 @@
 // The median charge: a layer costs the sum of the distances of its readings to their median.
+// Here are its table and the passes over it.
+ghost use mathlib.Core.Path.{_≡_};
+ghost use mathlib.Core.Bool.{true};
+ghost use mathlib.Core.List.{_++_};
+ghost use Prim.Native.Nat.{ℕ, _+_, _<_, _≤_};
+ghost use lib.IntN.{pos};
+ghost use lib.ListN.{length, getD, take, drop};
+ghost use denote.Ref.{name};
+ghost use Rattle.std.specs.shelf.Lists.{All, inserted};
+ghost use Rattle.readings.specs.Numbers.{number-reading};
+ghost use Rattle.medians.specs.Ranks.{place, rank, ranked-with};
+ghost use Rattle.medians.specs.Walks.{in-segment, picked, share, balance};
+use place::Place;
+
 pub mod median;
 pub mod place;
-mod table;
-mod walks;
+
+// The lent memory. Its first places hold the readings in rising order; how many they are, the charge knows.
+#[derive(Drop)]
+struct Table<'a> {
+    places: &'a mut [Place],
+}
+
+impl<'a> Table<'a> {
+    // Ranks one reading more, the one with `count` others above it in the hole.
+    fn add(&mut self, count: usize, reading: i64)
+        requires { ⌜ count < length (now (now self .places)) ⌝ }
+        ensures after { λ _. ⌜ now (now (self .exit) .places) ≡ ranked-with (place reading count) (take count (now (now (self .entry) .places))) ++ drop (count + 1) (now (now (self .entry) .places)) ⌝ }
+        ensures lender { λ _. ⌜ name (now (self .exit) .places) ≡ name (now (self .entry) .places) ⌝ }
+    {
+        rank_in(self.places, count, reading);
+    }
+}
+
+// How many places at the front hold readings of at most this one.
+fn rank_of(places: &[Place], reading: i64) -> usize
+    ensures value { λ r. ⌜ r ≡ rank reading (now (places .entry)) ⌝ }
+{
+    for (i, place) in places.iter().enumerate() {
+        if place.reading > reading {
+            return i;
+        }
+    }
+    places.len()
+}
+
+// Puts a place in at `from`, and moves those from there up to `count` one further; what was at `count` goes.
+fn put_in(table: &mut [Place], from: usize, count: usize, place: Place)
+    requires { ⌜ from ≤ count ⌝ ∗ ⌜ count < length (now table) ⌝ }
+    ensures after { λ _. ⌜ now (table .exit) ≡ take (count + 1) (inserted (now (table .entry)) from place) ++ drop (count + 1) (now (table .entry)) ⌝ }
+{
+    let mut moved = place;
+    for i in from..count + 1 {
+        let next = table[i];
+        table[i] = moved;
+        moved = next;
+    }
+}
+
+// Ranks one reading more among the first `count` places, the one with `count` others above it in the hole.
+fn rank_in(table: &mut [Place], count: usize, reading: i64)
+    requires { ⌜ count < length (now table) ⌝ }
+    ensures after { λ _. ⌜ now (table .exit) ≡ ranked-with (place reading count) (take count (now (table .entry))) ++ drop (count + 1) (now (table .entry)) ⌝ }
+{
+    let from = rank_of(&table[0..count], reading);
+    put_in(table, from, count, Place { reading, at: count });
+}
+
+// Whether the place stands in the segment (s, t).
+fn in_segment(s: usize, t: usize, at: usize) -> bool
+    ensures value { λ r. ⌜ r ≡ in-segment s t at ⌝ }
+{
+    s <= at && at < t
+}
+
+// What the reading with `seen` others before it adds to the balance.
+fn share_of(low: usize, high: usize, seen: usize, reading: i64) -> i64
+    requires { ⌜ number-reading reading ≡ true ⌝ }
+    ensures value { λ r. ⌜ r ≡ share low high seen reading ⌝ }
+{
+    if seen < low {
+        -reading
+    } else if high <= seen {
+        reading
+    } else {
+        0
+    }
+}
+
+// The sum of the upper readings of the segment (s, t) less that of the lower ones.
+fn balance_of(places: &[Place], s: usize, t: usize, low: usize, high: usize) -> i64
+    requires { ⌜ length (now places) ≤ 1024 ⌝ ∗ ⌜ All (λ p. number-reading (p .reading) ≡ true) (now places) ⌝ }
+    ensures value { λ r. ⌜ r ≡ balance low high 0 (picked s t (now (places .entry))) ⌝ }
+{
+    let mut seen = 0usize;
+    let mut sum = 0i64;
+    for place in places {
+        if in_segment(s, t, place.at) {
+            sum += share_of(low, high, seen, place.reading);
+            seen += 1;
+        }
+    }
+    sum
+}
+
+// The reading of the segment (s, t) with `before` others before it in rising order; 0 where there is none.
+fn reading_after(places: &[Place], s: usize, t: usize, before: usize) -> i64
+    ensures value { λ r. ⌜ r ≡ getD (picked s t (now (places .entry))) before (pos 0) ⌝ }
+{
+    let mut seen = 0usize;
+    for place in places {
+        if in_segment(s, t, place.at) {
+            if seen == before {
+                return place.reading;
+            }
+            seen += 1;
+        }
+    }
+    0
+}

@@ -3,16 +3,16 @@ ghost use mathlib.Core.Path.{_≡_};
 ghost use mathlib.Core.Bool.{true};
 ghost use mathlib.Core.List.{[]};
 ghost use Prim.Native.Nat.{ℕ, _≤_};
-ghost use lib.ListN.{length, take};
-ghost use denote.Ref.{now};
+ghost use lib.ListN.{length, take, drop};
+ghost use denote.Ref.{name, now};
 ghost use Rattle.charges.specs.Rules.{all-lawful};
 ghost use Rattle.readings.specs.Makings.{making-told, made-capacity};
 ghost use Rattle.medians.specs.Medians.{median, median-rules};
 ghost use Rattle.medians.specs.Ranks.{readings-of, in-rank};
+use crate::Table;
+use crate::balance_of;
 use crate::place::Place;
-use crate::table::Table;
-use crate::walks::balance_of;
-use crate::walks::reading_after;
+use crate::reading_after;
 use amounts::Whole;
 use amounts::WholeAmount;
 use charges::Charge;
@@ -44,8 +44,9 @@ impl<'a> Median<'a> {
     // A charge that holds no reading; from what the test refuses, one of capacity 0. No place is written.
     pub fn new(table: &'a mut [Place], capacity: usize) -> Median<'a>
         ensures capacity { λ r. ⌜ r .capacity ≡ made-capacity (making-told capacity capacity (length (now (table .entry)))) capacity ⌝ }
-        ensures count { λ r. ⌜ r .count ≡ 0 ⌝ }
+        ensures held { λ r. ⌜ readings-of (take (r .count) (now (r .table .places))) ≡ [] ⌝ }
         ensures table { λ r. ⌜ now (r .table .places) ≡ now (table .entry) ⌝ }
+        ensures lender { λ r. ⌜ name (r .table .places) ≡ name (table .entry) ⌝ }
     {
         let capacity = match Median::test(table, capacity) {
             Ok(()) => capacity,
@@ -68,13 +69,14 @@ pub impl<'a> Charge for Median<'a> as MedianCharge {
 
     ghost held = { λ c. readings-of (take (c .count) (now (c .table .places))) };
 
-    ghost alike = { λ c d. Unit {0} };
+    // places past the capacity are never written, and the memory is the one that was lent
+    ghost alike = { λ c d. (drop (c .capacity) (now (d .table .places)) ≡ drop (c .capacity) (now (c .table .places))) × (name (d .table .places) ≡ name (c .table .places)) };
 
     fn take(&mut self, reading: i64) -> Result<(), Refusal> {
         if self.count >= self.capacity {
             return Err(Refusal::Full);
         }
-        if !is_number(reading) {
+        if !self.lawful(reading) {
             return Err(Refusal::Unlawful);
         }
         self.table.add(self.count, reading);
@@ -103,11 +105,11 @@ pub impl<'a> Charge for Median<'a> as MedianCharge {
     }
 
     fn count(&self) -> usize {
-        self.count
+        self.count // how many are held
     }
 
     fn capacity(&self) -> usize {
-        self.capacity
+        self.capacity // how many can be
     }
 
     fn reading_bound(&self) -> u64 {
@@ -116,5 +118,44 @@ pub impl<'a> Charge for Median<'a> as MedianCharge {
 
     fn lawful(&self, reading: i64) -> bool {
         is_number(reading)
+    }
+}
+
+#[cfg(test)]
+mod tests {
+    use super::*;
+    use amounts::WholeDebug;
+    use amounts::WholePartialEq;
+    use charges::RefusalDebug;
+    use charges::RefusalPartialEq;
+    use std::test::*;
+
+    const NOWHERE: Place = Place { reading: 0, at: 0 };
+
+    #[test]
+    fn makings_are_tested() -> Result<(), Fail> {
+        let table = [NOWHERE; 8];
+        check_eq(Median::test(&table, 0), Err(Refusal::Capacity))?;
+        check_eq(Median::test(&table, 1025), Err(Refusal::Capacity))?;
+        check_eq(Median::test(&table, 9), Err(Refusal::ShortTable))?;
+        check_eq(Median::test(&table, 8), Ok(()))
+    }
+
+    #[test]
+    fn segments_cost_their_distances() -> Result<(), Fail> {
+        let mut table = [NOWHERE; 4];
+        let mut charge = Median::new(&mut table, 4);
+        check_eq(charge.take(1_000_001), Err(Refusal::Unlawful))?;
+        check_eq(charge.take(10), Ok(()))?;
+        check_eq(charge.take(-3), Ok(()))?;
+        check_eq(charge.take(4), Ok(()))?;
+        check_eq(charge.take(4), Ok(()))?;
+        check_eq(charge.take(1), Err(Refusal::Full))?;
+        check_eq(charge.fee(0, 4), Ok(Whole { number: 13 }))?;
+        check_eq(charge.level(0, 4), Ok(4))?;
+        check_eq(charge.fee(0, 2), Ok(Whole { number: 13 }))?;
+        check_eq(charge.level(0, 2), Ok(-3))?;
+        check_eq(charge.fee(2, 2), Err(Refusal::Outside))?;
+        check_eq(charge.level(3, 5), Err(Refusal::Outside))
     }
 }

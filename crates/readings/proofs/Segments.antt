@@ -15,6 +15,9 @@ use Rattle.charges.specs.Rules.{segment}
 pub length-segment : (h : List ℤ) (s t : ℕ) → t ≤ length h → length (segment h s t) ≡ t - s
 length-segment h s t le = simp (length-take, length-drop) (omega arith)
 
+pub segment-all : (h : List ℤ) → segment h 0 (length h) ≡ h
+segment-all h = take-all (length h - 0) h (omega arith)
+
 pub segment-none : (s t : ℕ) → segment [] s t ≡ []
 segment-none s t = ap (take (t - s)) (drop-all {X = ℤ} s [] (omega arith)) ∙ take-all {A = ℤ} (t - s) [] (omega arith)
 
@@ -30,14 +33,14 @@ module _ (h : List ℤ) (x : ℤ) (s t : ℕ) where
   ends-before le lt =
       ap (take (t - s)) (drop-append-le s h (x ∷ []) le)
       ∙ (take-append-le (t - s) (drop s h) (x ∷ []) (simp length-drop (omega arith))
-        ∙ (sym (append-nil (segment h s t)) ∙ ap (λ b. segment h s t ++ cond b (x ∷ []) []) (sym (and-right (leb s (length h)) _ (le-ltb (length h) t lt)))))
+      ∙ (sym (append-nil (segment h s t)) ∙ ap (λ b. segment h s t ++ cond b (x ∷ []) []) (sym (and-right (leb s (length h)) _ (le-ltb (length h) t lt)))))
 
   ends-behind : s ≤ length h → length h < t → Pushed
   ends-behind le lt =
       let all : take (t - s) (drop s h) ≡ drop s h = take-all (t - s) (drop s h) (simp length-drop (omega arith)) in
       ap (take (t - s)) (drop-append-le s h (x ∷ []) le)
       ∙ (take-all (t - s) (drop s h ++ (x ∷ [])) (simp (length-push, length-drop) (omega arith))
-        ∙ (ap (λ l. l ++ (x ∷ [])) (sym all) ∙ ap (λ b. segment h s t ++ cond b (x ∷ []) []) (sym (and-from _ _ (le-leb s (length h) le) (lt-ltb (length h) t lt)))))
+      ∙ (ap (λ l. l ++ (x ∷ [])) (sym all) ∙ ap (λ b. segment h s t ++ cond b (x ∷ []) []) (sym (and-from _ _ (le-leb s (length h) le) (lt-ltb (length h) t lt)))))
 
   starts-behind : length h < s → Pushed
   starts-behind lt =

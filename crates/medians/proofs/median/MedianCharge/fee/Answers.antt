@@ -57,7 +57,7 @@ balance-told c =
     let middle = (c .args .t - c .args .s - 1) / 2 in
     c .balance-of-sum .ensures .value
     ∙ (ap (λ n. balance (c .args .t - c .args .s - (middle + 1)) (middle + 1) 0 (picked (c .args .s) (c .args .t) (take n ps))) all
-      ∙ fee-is ps (me .count) (omega (arith, me .few, me .room)) (me .order) (c .args .s) (c .args .t) (c .if-s-t .left) (c .if-t-self .left))
+    ∙ fee-is ps (me .count) (omega (arith, me .few, me .room)) (me .order) (c .args .s) (c .args .t) (c .if-s-t .left) (c .if-t-self .left))
 
 pub cast-result : need.cast-result
 cast-result c =

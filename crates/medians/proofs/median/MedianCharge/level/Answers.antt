@@ -36,8 +36,8 @@ returns c =
     let fit : SFits w64 (c .reading-after .result) = search needs in
     let whole : me .count - 0 ≡ me .count = omega arith in
     let is =
-        toZ-ofZ w64 (c .reading-after .result) fit
-        ∙ (c .reading-after .ensures .value
-          ∙ (ap (λ n. getD (picked (c .args .s) (c .args .t) (take n ps)) ((c .args .t - c .args .s - 1) / 2) (pos 0)) whole
-            ∙ level-is ps (me .count) room (me .order) (c .args .s) (c .args .t) (c .if-s-t .left) (c .if-t-self .left))) in
+    toZ-ofZ w64 (c .reading-after .result) fit
+    ∙ (c .reading-after .ensures .value
+    ∙ (ap (λ n. getD (picked (c .args .s) (c .args .t) (take n ps)) ((c .args .t - c .args .s - 1) / 2) (pos 0)) whole
+    ∙ level-is ps (me .count) room (me .order) (c .args .s) (c .args .t) (c .if-s-t .left) (c .if-t-self .left))) in
     record { value = ap Ok is ∙ sym (told-segment median (readings-of (take (me .count) ps)) (c .args .s) (c .args .t) (c .if-s-t .left) (omega arith)) }

@@ -16,7 +16,7 @@ use Rattle.readings.specs.Numbers.{number-reading}
 use Rattle.medians.specs.declared.place.Place.{Place}
 use Rattle.medians.specs.Medians.{median-rules}
 use Rattle.medians.specs.Ranks.{place, ranked-with, readings-of, in-rank}
-use Rattle.medians.proofs.Charged.{length-held, after-order, after-held, after-lawful, after-length}
+use Rattle.medians.proofs.Charged.{length-held, after-order, after-held, after-lawful, after-length, after-beyond}
 use Rattle.medians.proofs.median.MedianCharge.take.Needs as need
 
 -- the table after the reading is ranked in
@@ -38,24 +38,24 @@ returns-then-self c =
       held = sym (after-full (median-rules (me .capacity)) h (c .args .reading) full);
       rules = refl;
       leveling = refl;
-      alike = tt;
+      alike = (refl, refl);
       refused = λ _. refl;
     }
 
-pub returns-then-not-is-number : need.returns-then-not-is-number
-returns-then-not-is-number c =
+pub returns-then-not-lawful : need.returns-then-not-lawful
+returns-then-not-lawful c =
     let me = c .args .self .now in
     let ps = me .table .places .now in
     let h = readings-of (take (me .count) ps) in
     let long = length-held ps (me .count) (omega (arith, me .few, me .room)) (me .order) in
     let free : length h < me .capacity = omega arith in
-    let bad : number-reading (c .args .reading) ≡ false = tested (c .args .reading) false (c .fits .reading) (c .if-not-is-number .ensures tt .value) in
+    let bad : number-reading (c .args .reading) ≡ false = tested (c .args .reading) false (c .fits .reading) (c .if-not-lawful .ensures tt .value) in
     record {
       answer = sym (told-unlawful (median-rules (me .capacity)) h (c .args .reading) free bad);
       held = sym (after-unlawful (median-rules (me .capacity)) h (c .args .reading) free bad);
       rules = refl;
       leveling = refl;
-      alike = tt;
+      alike = (refl, refl);
       refused = λ _. refl;
     }
 
@@ -65,11 +65,10 @@ ghost-self c =
     let ps = me .table .places .now in
     let x = c .args .reading in
     let is = table-after (c .add .last .self .places .now) ps (me .count) x (c .fits .reading) (c .add .ensures .after) in
-    let ok = tested x true (c .fits .reading) (c .if-not-is-number .ensures tt .value) in
+    let ok = tested x true (c .fits .reading) (c .if-not-lawful .ensures tt .value) in
     let room : me .count ≤ length ps = omega (arith, me .few, me .room) in
     let more : me .count < length ps = omega (arith, c .if-self .left, me .room) in
-    let long = after-length ps (me .count) room (me .order) x more in
-    (
+    let long = after-length ps (me .count) room (me .order) x more in (
       omega (arith, c .if-self .left),
       (
         me .small,
@@ -94,12 +93,12 @@ returns c =
     let long = length-held ps (me .count) room (me .order) in
     let free : length h < me .capacity = omega (arith, c .if-self .left) in
     let is = table-after (c .add .last .self .places .now) ps (me .count) x (c .fits .reading) (c .add .ensures .after) in
-    let ok = tested x true (c .fits .reading) (c .if-not-is-number .ensures tt .value) in
+    let ok = tested x true (c .fits .reading) (c .if-not-lawful .ensures tt .value) in
     record {
       answer = sym (told-taken (median-rules (me .capacity)) h x free ok);
       held = ap (λ l. readings-of (take (me .count + 1) l)) is ∙ (after-held ps (me .count) room (me .order) x more ∙ sym (after-taken (median-rules (me .capacity)) h x free ok));
       rules = refl;
       leveling = refl;
-      alike = tt;
+      alike = (ap (drop (me .capacity)) is ∙ after-beyond ps (me .count) room (me .order) x more (me .capacity) (c .if-self .left), c .add .ensures .lender);
       refused = λ e. absurd (true≢false e);
     }
