@@ -2,6 +2,7 @@
 use charges::Refusal;
 use charges::RefusalDebug;
 use charges::RefusalPartialEq;
+use std::error::Error;
 use std::fmt;
 
 #[derive(Clone, Copy, PartialEq, Eq, Debug)]
@@ -43,3 +44,5 @@ pub impl fmt::Display for Fault as FaultDisplay {
         write!(f, "line {line}: {complaint}")
     }
 }
+
+pub impl Error for Fault as FaultError {}

@@ -11,15 +11,15 @@ use amounts::WholeAmount;
 use charges::Charge;
 use charges::Refusal;
 use fault::Complaint;
-use fault::ComplaintDisplay;
 use fault::Fault;
 use fault::FaultDisplay;
+use fault::FaultError;
 use layer::Layer;
 use layer::LayerDisplay;
 use medians::median::Median;
 use medians::median::MedianCharge;
 use medians::place::Place;
-use std::alloc::AllocError;
+use std::error::AnyError;
 use std::io;
 
 mod fault;
@@ -88,17 +88,18 @@ fn layer_of<C: Charge<Cost = Whole>>(charge: &mut C, text: &str) -> Result<Layer
     }
 }
 
-fn main(rt: LibcRuntime) -> io::Result<()> {
+// Reads the input and prints its layer.
+fn run(rt: &LibcRuntime) -> Result<(), AnyError> {
     let text = io::read_to_string(rt.alloc(), rt.stdin())?;
     let mut places = vec![in rt.alloc(); Place { reading: 0, at: 0 }; 1024]?;
     let mut charge = Median::new(&mut places, 1024);
-    match layer_of(&mut charge, text.as_str()) {
-        Ok(layer) => println!(rt, "{layer}"),
-        Err(fault) => {
-            eprintln!(rt, "{fault}")?;
-            Err(io::Error::from(io::ErrorKind::InvalidData))
-        }
-    }
+    let layer = layer_of(&mut charge, text.as_str())?;
+    rt.println(layer)?;
+    Ok(())
+}
+
+fn main(rt: LibcRuntime) -> Result<(), AnyError> {
+    rt.report(run(&rt))
 }
 
 #[cfg(test)]

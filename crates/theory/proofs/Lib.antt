@@ -1,0 +1,12 @@
+pub mod Order
+pub mod Choosing
+pub mod Totals
+pub mod Layerings
+pub mod Ties
+pub mod Keeping
+pub mod Pruned
+pub mod Levels
+pub mod Tallies
+pub mod Smooth
+pub mod Weights
+pub mod Growth

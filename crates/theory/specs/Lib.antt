@@ -1,0 +1,12 @@
+pub mod Least
+pub mod Layerings
+pub mod Totals
+pub mod Keeping
+pub mod Pruned
+pub mod Levels
+pub mod Tallies
+pub mod Smooth
+pub mod Weights
+pub mod Theorems
+pub mod TheoremsOfSearches
+pub mod TheoremsOfGrowth
