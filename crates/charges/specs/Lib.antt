@@ -1,3 +1,4 @@
 pub mod Refusals
 pub mod Rules
 pub mod Told
+pub mod Levels

@@ -11,6 +11,8 @@ ghost use Rattle.charges.specs.Rules.{Rules, ChargeLaws, Held};
 ghost use Rattle.charges.specs.Told.{take-told, after-take, segment-told};
 use amounts::Amount;
 
+pub mod levels;
+
 // Why a call says no. A refused call changes nothing.
 #[derive(Clone, Copy, PartialEq, Eq, Debug)]
 pub enum Refusal {
