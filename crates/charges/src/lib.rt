@@ -18,13 +18,15 @@ pub mod levels;
 pub enum Refusal {
     // a new charge: the capacity is 0 or above 1,024
     Capacity,
+    // a new charge: the level set is empty, longer than 32, not strictly rising or out of range
+    LevelSet,
     // a new charge: the table is shorter than the capacity needs
     ShortTable,
     // the capacity is reached
     Full,
     // the reading is not lawful
     Unlawful,
-    // the segment is not one of the readings held
+    // the segment is not one of the readings held, the place is not below their number, or the level is not offered
     Outside,
 }
 
@@ -34,6 +36,7 @@ impl Refusal {
     {
         match self {
             Refusal::Capacity => 1,
+            Refusal::LevelSet => 2,
             Refusal::ShortTable => 3,
             Refusal::Full => 6,
             Refusal::Unlawful => 7,

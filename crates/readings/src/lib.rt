@@ -1,6 +1,7 @@
-// What the charges share: which readings are numbers, and the test before a charge is made.
+// What the charges share: which readings are numbers or symbols, and the test before a charge is made.
 ghost use mathlib.Core.Path.{_≡_};
 ghost use Rattle.readings.specs.Numbers.{number-reading};
+ghost use Rattle.readings.specs.Symbols.{symbol-reading};
 ghost use Rattle.readings.specs.Makings.{making-told};
 use charges::Refusal;
 
@@ -9,6 +10,13 @@ pub fn is_number(reading: i64) -> bool
     ensures value { λ r. ⌜ r ≡ number-reading reading ⌝ }
 {
     -1_000_000 <= reading && reading <= 1_000_000
+}
+
+// Whether the reading is a symbol, from 0 to 31.
+pub fn is_symbol(reading: i64) -> bool
+    ensures value { λ r. ⌜ r ≡ symbol-reading reading ⌝ }
+{
+    0 <= reading && reading <= 31
 }
 
 // Whether a charge of this capacity can be made, where it needs a table of `needed` places and is lent one of `table`.
