@@ -1,35 +1,5 @@
--- Pair amounts show the laws.
-use mathlib.Core.Path.{_≡_, refl}
-use mathlib.Core.Bool.{true}
-use Prim.Native.Nat.{ℕ}
-use native.Mathlib.Omega.{arith}
-use Rattle.std.proofs.shelf.Ways.{tells}
-use Rattle.amounts.specs.Kinds.{pair, pair-at-most}
-use Rattle.amounts.specs.declared.Pair.{Pair}
+use Rattle.amounts.proofs.Lawful.{pair-laws}
 use Rattle.amounts.proofs.PairAmount.the-impl.Needs as need
 
-pair-is : {a b c d : ℕ} → a ≡ b → c ≡ d → pair a c ≡ pair b d
-pair-is e f = cc
-
-both-ways : (a b : Pair) → pair-at-most a b ≡ true → pair-at-most b a ≡ true → a ≡ b
-both-ways a b h k =
-    let e : a .cost ≡ b .cost = grind (arith, tells) in
-    let f : a .layers ≡ b .layers = grind (arith, tells) in
-    pair-is e f
-
 pub lawful-law : need.lawful-law
-lawful-law = record {
-  plus-assoc = λ a b c. pair-is (omega arith) (omega arith);
-  plus-comm = λ a b. pair-is (omega arith) (omega arith);
-  plus-nothing = λ a. pair-is (omega arith) (omega arith);
-  total = λ a b. grind (arith, tells);
-  transitive = λ a b c h k. grind (arith, tells);
-  antisymmetric = both-ways;
-  nothing-least = λ a. grind (arith, tells);
-  cancels = λ a b c. grind (arith, tells);
-  weight-nothing = refl;
-  weight-plus = λ a b. omega arith;
-  words-read = λ a h. refl;
-  words-weigh = λ a h. refl;
-  read-weighs = λ w. omega arith;
-}
+lawful-law = pair-laws
