@@ -13,9 +13,9 @@ use Rattle.std.proofs.shelf.Elements.{all-append}
 use Rattle.std.proofs.shelf.Lists.{length-append}
 use Rattle.std.proofs.shelf.Tests.{cases-bool, cond-true, cond-false, cases-eq, both-ways}
 use Rattle.amounts.specs.Kind.{Kind, Laws}
-use Rattle.charges.specs.Rules.{Rules, Layable, all-lawful}
+use Rattle.charges.specs.Rules.{Rules, Layable}
 use Rattle.charges.specs.Levels.{Levels, LevelLaws, price-total, best-upto, best-level}
-use Rattle.charges.proofs.Lawful.{Lawful, all-from-lawful, lawful-from-all}
+use Rattle.charges.proofs.Lawful.{all-from-pass, pass-from-all}
 
 module _ {V : Type 0} {k : Kind V} (a : Laws k) where
   reflexive : (x : V) → k .at-most x x ≡ true
@@ -82,7 +82,7 @@ module _ {V : Type 0} {k : Kind V} (a : Laws k) where
         omega (arith, a .weight-plus (l .price x i) (total i xs), h .0, total-weight bound i xs (h .1), add-mul 1 (length xs) bound)
 
   module _ (r : Rules V) (leveling : List ℤ → ℤ) (l : Levels V) (so : LevelLaws k r leveling l) where
-    prices-weigh : (i : ℕ) → i < l .offered → (u : List ℤ) → All (Lawful r) u → All (λ x. k .weight (l .price x i) ≤ r .bound) u
+    prices-weigh : (i : ℕ) → i < l .offered → (u : List ℤ) → All (λ x. r .lawful x ≡ true) u → All (λ x. k .weight (l .price x i) ≤ r .bound) u
     prices-weigh i lt [] h = tt
     prices-weigh i lt (x ∷ xs) h = (so .weight x i (h .0) lt, prices-weigh i lt xs (h .1))
 
@@ -90,7 +90,7 @@ module _ {V : Type 0} {k : Kind V} (a : Laws k) where
     leveled-weight u p =
         let b = best-level k l u in
         let lt : b < l .offered = omega (arith, best-within l (l .offered - 1) u, so .some) in
-        let w = total-weight l (r .bound) b u (prices-weigh b lt u (all-from-lawful r u (p .lawful))) in
+        let w = total-weight l (r .bound) b u (prices-weigh b lt u (all-from-pass (r .lawful) u (p .lawful))) in
         let P : V → Type 0 = λ v. k .weight v ≤ length u * r .bound in
         subst P (sym (so .fee u p)) w
 
@@ -100,7 +100,7 @@ module _ {V : Type 0} {k : Kind V} (a : Laws k) where
     joined : (u v : List ℤ) → Layable r u → Layable r v → Layable r (u ++ v)
     joined u v p q = record {
       some = omega (arith, length-append u v, p .some);
-      lawful = lawful-from-all r (u ++ v) (all-append (Lawful r) u v (all-from-lawful r u (p .lawful)) (all-from-lawful r v (q .lawful)));
+      lawful = pass-from-all (r .lawful) (u ++ v) (all-append (λ x. r .lawful x ≡ true) u v (all-from-pass (r .lawful) u (p .lawful)) (all-from-pass (r .lawful) v (q .lawful)));
     }
 
     pub leveled-splits : (u v : List ℤ) → Layable r u → Layable r v → k .at-most (k .plus (r .fee u) (r .fee v)) (r .fee (u ++ v)) ≡ true

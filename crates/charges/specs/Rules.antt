@@ -5,11 +5,12 @@
 --   reading bound: a fee weighs at most this much for each of its readings.
 --   lawful: a reading that the charge takes.
 use mathlib.Core.Path.{_≡_}
-use mathlib.Core.Bool.{Bool, true, _&&_}
-use mathlib.Core.List.{List, [], _∷_, _++_}
+use mathlib.Core.Bool.{Bool, true}
+use mathlib.Core.List.{List, _++_}
 use Prim.Native.Nat.{ℕ, _+_, _*_, _-_, _^_, _≤_, _<_}
 use lib.IntN.{ℤ}
 use lib.ListN.{length, take, drop}
+use Rattle.std.specs.shelf.Lawful.{all-pass}
 use Rattle.amounts.specs.Kind.{Kind}
 
 -- what never changes in the life of a charge; the fee rule speaks of non-empty lists of lawful readings
@@ -20,8 +21,7 @@ pub record Rules (V : Type 0) : Type 0 where
   pub fee : List ℤ → V
 
 abbrev pub all-lawful : {V : Type 0} → Rules V → List ℤ → Bool
-all-lawful r [] = true
-all-lawful r (x ∷ xs) = r .lawful x && all-lawful r xs
+all-lawful r u = all-pass (r .lawful) u
 
 -- the lists that the rules speak of
 pub record Layable {V : Type 0} (r : Rules V) (u : List ℤ) : Type 0 where

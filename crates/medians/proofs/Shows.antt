@@ -12,7 +12,7 @@ use Rattle.std.proofs.shelf.Sums.{sumBy-append, sumBy-le}
 use Rattle.std.proofs.shelf.Tests.{le-leb}
 use Rattle.amounts.specs.Kinds.{whole-kind}
 use Rattle.charges.specs.Rules.{ChargeLaws, Layable, segment}
-use Rattle.charges.proofs.Lawful.{all-from-lawful}
+use Rattle.charges.proofs.Lawful.{all-from-pass}
 use Rattle.readings.specs.Numbers.{number-reading}
 use Rattle.readings.proofs.Ranges.{number-apart}
 use Rattle.readings.proofs.Segments.{segment-all}
@@ -67,5 +67,5 @@ median-laws c few = record {
   capacity = few;
   bound = omega arith;
   splitting = λ u v p q short. le-leb _ _ (median-splits u v (p .some) (q .some));
-  weight = λ u p. median-weight u (p .some) (all-from-lawful (median-rules c) u (p .lawful));
+  weight = λ u p. median-weight u (p .some) (all-from-pass number-reading u (p .lawful));
 }

@@ -1,15 +1,13 @@
 -- How large a number reading is.
-use mathlib.Core.Path.{_≡_, refl}
+use mathlib.Core.Path.{_≡_}
 use mathlib.Core.Bool.{true, _&&_}
-use mathlib.Core.List.{List, [], _∷_, _++_}
 use Prim.Native.Nat.{ℕ, _≤_}
 use native.Mathlib.Omega.{arith}
 use lib.IntN.{ℤ, pos, negsuc, _-ℤ_, natAbs}
 use lib.Signed.{leZ, _≤ℤ_}
-use Rattle.std.specs.shelf.Lists.{All}
 use Rattle.std.proofs.shelf.Signed.{ints}
-use Rattle.std.proofs.shelf.Tests.{and-parts, and-from}
-use Rattle.readings.specs.Numbers.{number-reading, all-numbers}
+use Rattle.std.proofs.shelf.Tests.{and-parts}
+use Rattle.readings.specs.Numbers.{number-reading}
 
 leZ-le : (a b : ℤ) → leZ a b ≡ true → a ≤ℤ b
 leZ-le a b h = grind (arith, ints)
@@ -25,11 +23,3 @@ number-size x h = let a = number-low x h in let b = number-high x h in omega (ar
 
 pub number-apart : (x y : ℤ) → number-reading x ≡ true → number-reading y ≡ true → natAbs (x -ℤ y) ≤ 2000000
 number-apart x y h k = omega (arith, ints, number-low x h, number-high x h, number-low y k, number-high y k)
-
-pub all-from-numbers : (u : List ℤ) → all-numbers u ≡ true → All (λ x. number-reading x ≡ true) u
-all-from-numbers [] h = tt
-all-from-numbers (x ∷ xs) h = let p = and-parts (number-reading x) (all-numbers xs) h in (p .0, all-from-numbers xs (p .1))
-
-pub numbers-push : (u : List ℤ) (x : ℤ) → all-numbers u ≡ true → number-reading x ≡ true → all-numbers (u ++ (x ∷ [])) ≡ true
-numbers-push [] x h l = and-from _ _ l refl
-numbers-push (y ∷ ys) x h l = let p = and-parts (number-reading y) (all-numbers ys) h in and-from _ _ (p .0) (numbers-push ys x (p .1) l)

@@ -8,9 +8,12 @@ use native.Mathlib.Omega.{arith}
 use lib.Dec.{leb, ltb}
 use lib.IntN.{ℤ}
 use lib.ListN.{length, take, drop, length-take, length-drop}
-use Rattle.std.proofs.shelf.Lists.{length-push, take-all, take-append-le, drop-all, drop-append-le}
+use Rattle.std.specs.shelf.Lawful.{all-pass}
+use Rattle.std.proofs.shelf.Elements.{all-take, all-drop}
+use Rattle.std.proofs.shelf.Lists.{length-push, take-all, take-take, drop-take, take-append-le, drop-all, drop-append-le}
 use Rattle.std.proofs.shelf.Tests.{cases-lt, lt-ltb, le-ltb, le-leb, lt-leb, and-from, and-left, and-right}
 use Rattle.charges.specs.Rules.{segment}
+use Rattle.charges.proofs.Lawful.{all-from-pass, pass-from-all}
 
 pub length-segment : (h : List ℤ) (s t : ℕ) → t ≤ length h → length (segment h s t) ≡ t - s
 length-segment h s t le = simp (length-take, length-drop) (omega arith)
@@ -20,6 +23,17 @@ segment-all h = take-all (length h - 0) h (omega arith)
 
 pub segment-none : (s t : ℕ) → segment [] s t ≡ []
 segment-none s t = ap (take (t - s)) (drop-all {X = ℤ} s [] (omega arith)) ∙ take-all {A = ℤ} (t - s) [] (omega arith)
+
+-- a segment of the first readings is one of all
+pub segment-front : (l : List ℤ) (n s t : ℕ) → s ≤ t → t ≤ n → segment (take n l) s t ≡ segment l s t
+segment-front l n s t le few =
+    let e : s + (n - s) ≡ n = omega arith in
+    ap (λ m. take (t - s) (drop s (take m l))) (sym e) ∙ (ap (take (t - s)) (drop-take s (n - s) l) ∙ take-take (t - s) (n - s) (drop s l) (omega arith))
+
+-- what all readings pass, those of a segment do
+pub segment-passes : (p : ℤ → Bool) (l : List ℤ) (s t : ℕ) → all-pass p l ≡ true → all-pass p (segment l s t) ≡ true
+segment-passes p l s t h =
+    pass-from-all p (segment l s t) (all-take (λ x. p x ≡ true) (t - s) (drop s l) (all-drop (λ x. p x ≡ true) s l (all-from-pass p l h)))
 
 -- one reading more stands in the segments that reach past it
 module _ (h : List ℤ) (x : ℤ) (s t : ℕ) where

@@ -1,5 +1,5 @@
 use mathlib.Core.Path.{refl, sym}
-use Rattle.medians.proofs.Charged.{length-held, lawful-held}
+use Rattle.medians.proofs.Charged.{length-held}
 use Rattle.medians.proofs.Table.len.Needs as need
 
 pub returns : need.returns
@@ -8,5 +8,5 @@ returns c =
     record {
       same = refl;
       value = sym (length-held ps (c .args .count) (c .pre .room) (c .pre .order));
-      lawful = λ n. lawful-held ps (c .args .count) (c .pre .room) (c .pre .order) n (c .pre .numbers);
+      lawful = λ n. c .pre .numbers;
     }
