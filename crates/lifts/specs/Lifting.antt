@@ -1,5 +1,5 @@
 -- The lift: a charge in whole amounts as one in pairs.
---   lifted: of a whole amount f, the pair (f, 0). A penalty of b is then (b, 1), so that of equal costs fewer layers weigh less.
+--   lifted: of a whole amount f, the pair (f, 0). A penalty of b is then (b, 1), so that of equal costs fewer layers come first in the order.
 use mathlib.Core.List.{List}
 use lib.IntN.{ℤ}
 use Rattle.amounts.specs.Kinds.{pair}

@@ -113,11 +113,11 @@ fn rank_of(places: &[Place], reading: i64) -> usize
 }
 
 // Puts a place in at `from`, and moves those from there up to `count` one further; what was at `count` goes.
-fn put_in(table: &mut [Place], from: usize, count: usize, place: Place)
+fn put_in(table: &mut [Place], from: usize, count: usize, added: Place)
     requires { ⌜ from ≤ count ⌝ ∗ ⌜ count < length (now table) ⌝ }
-    ensures after { λ _. ⌜ now (table .exit) ≡ take (count + 1) (inserted (now (table .entry)) from place) ++ drop (count + 1) (now (table .entry)) ⌝ }
+    ensures after { λ _. ⌜ now (table .exit) ≡ take (count + 1) (inserted (now (table .entry)) from added) ++ drop (count + 1) (now (table .entry)) ⌝ }
 {
-    let mut moved = place;
+    let mut moved = added;
     for i in from..count + 1 {
         let next = table[i];
         table[i] = moved;

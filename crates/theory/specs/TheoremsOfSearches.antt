@@ -1,5 +1,5 @@
 -- What is true of the three searches.
---   sound: a keeping test that drops no break which is still to be used, so that the kept breaks give total and back.
+--   sound: a keeping test that drops no break which is still to be a last break, so that the kept breaks give total and back.
 use mathlib.Core.Path.{_≡_}
 use mathlib.Core.Bool.{Bool, true, false, not, cond}
 use mathlib.Core.Logic.{_⊎_}

