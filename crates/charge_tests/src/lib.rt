@@ -60,7 +60,9 @@ mod tests {
     }
 
     // The fee of the first two readings, and the price of the first at level 2, of the charge lifted.
-    fn lifted<C: LevelCharge + Charge<Cost = Whole> + Drop>(mut charge: C) -> (Result<Pair, Refusal>, Result<Pair, Refusal>) {
+    fn lifted<C: LevelCharge + Charge<Cost = Whole> + Drop>(
+        mut charge: C,
+    ) -> (Result<Pair, Refusal>, Result<Pair, Refusal>) {
         let _ = charge.take(5);
         let _ = charge.take(2);
         let lift = Lift { inner: charge };

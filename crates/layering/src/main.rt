@@ -98,8 +98,15 @@ fn run(rt: &LibcRuntime) -> Result<(), AnyError> {
     Ok(())
 }
 
+// A failure is told in one line on standard error, and ends the program with status 1.
 fn main(rt: LibcRuntime) -> Result<(), AnyError> {
-    rt.report(run(&rt))
+    match run(&rt) {
+        Ok(()) => Ok(()),
+        Err(failure) => {
+            eprintln!(rt, "{failure}")?;
+            Err(failure)
+        }
+    }
 }
 
 #[cfg(test)]
