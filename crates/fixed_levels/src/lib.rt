@@ -6,7 +6,7 @@ ghost use mathlib.Core.List.{List, _++_, _∷_, []};
 ghost use Prim.Native.Nat.{ℕ, _+_, _*_, _-_, _<_, _≤_};
 ghost use lib.Dec.{ltb};
 ghost use lib.IntN.{ℤ, pos, natAbs, _+ℤ_, _-ℤ_, _*ℤ_};
-ghost use lib.ListN.{length, getD, set, take, drop};
+ghost use lib.ListN.{length, getD, take, drop};
 ghost use lib.Signed.{_≤ℤ_};
 ghost use denote.Ref.{name};
 ghost use Rattle.std.specs.Results.{mapped};
@@ -21,6 +21,7 @@ use charges::Refusal;
 use level_sets::LevelSet;
 use place::Place;
 
+pub mod fixed;
 pub mod place;
 
 // The lent memory. Its first places hold the readings with their running sums; how many they are, the charge knows.
@@ -55,8 +56,7 @@ impl<'a> Table<'a> {
         ensures length { λ _. ⌜ length (now (now (self .exit) .places)) ≡ length (now (now (self .entry) .places)) ⌝ }
         ensures lender { λ _. ⌜ name (now (self .exit) .places) ≡ name (now (self .entry) .places) ⌝ }
     {
-        let place = place_after(&self.places[..count], reading);
-        put(self.places, count, place);
+        append(self.places, count, reading);
     }
 
     // How many readings its first `count` places hold: as many, and lawful ones.
@@ -152,11 +152,20 @@ fn squared_distance(reading: i64, level: i64) -> u64
     square_of(reading - level)
 }
 
-fn put(table: &mut [Place], at: usize, place: Place)
-    requires { ⌜ at < length (now table) ⌝ }
-    ensures after { λ _. ⌜ now (table .exit) ≡ set (now (table .entry)) at place ⌝ }
+// Writes one reading more, behind `count` others.
+fn append(table: &mut [Place], count: usize, reading: i64)
+    requires room { ⌜ count < length (now table) ⌝ }
+    requires few { ⌜ count < 1024 ⌝ }
+    requires sums { ⌜ summed (take count (now table)) ≡ true ⌝ }
+    requires numbers { ⌜ all-numbers (held-in (now table) count) ≡ true ⌝ }
+    requires number { ⌜ number-reading reading ≡ true ⌝ }
+    ensures sums { λ _. ⌜ summed (take (count + 1) (now (table .exit))) ≡ true ⌝ }
+    ensures numbers { λ _. ⌜ all-numbers (held-in (now (table .exit)) (count + 1)) ≡ true ⌝ }
+    ensures held { λ _. ⌜ held-in (now (table .exit)) (count + 1) ≡ held-in (now (table .entry)) count ++ (reading ∷ []) ⌝ }
+    ensures beyond { λ _. ⌜ ((c : ℕ) → count < c → drop c (now (table .exit)) ≡ drop c (now (table .entry))) ⌝ }
+    ensures length { λ _. ⌜ length (now (table .exit)) ≡ length (now (table .entry)) ⌝ }
 {
-    table[at] = place;
+    table[count] = place_after(&table[..count], reading);
 }
 
 // The place of one reading more.
