@@ -9,7 +9,9 @@ ghost use lib.IntN.{ℤ, pos, natAbs, _+ℤ_, _-ℤ_, _*ℤ_};
 ghost use lib.ListN.{length, getD, take, drop};
 ghost use lib.Signed.{_≤ℤ_};
 ghost use denote.Ref.{name};
-ghost use Rattle.std.specs.Results.{mapped};
+ghost use Rattle.std.specs.Results.{Cases};
+ghost use Rattle.std.specs.Vec.{made};
+ghost use Rattle.std.specs.declared.result.Result.the-variants.{Ok, Err};
 ghost use Rattle.amounts.specs.Kinds.{whole-kind};
 ghost use Rattle.charges.specs.Levels.{LevelLaws};
 ghost use Rattle.charges.specs.Rules.{ChargeLaws, all-lawful, segment};
@@ -120,7 +122,8 @@ fn show_laws(capacity: usize)
 
 // The level set of a charge that can be made of these levels, this capacity and a table of so many places.
 fn tested(levels: &[i64], capacity: usize, table: usize) -> Result<LevelSet, Refusal>
-    ensures value { λ r. ⌜ mapped (λ s. take (s .len) (s .levels)) (λ e. e) r ≡ mapped (λ _. now (levels .entry)) (λ e. e) (fixed-told (now (levels .entry)) capacity table) ⌝ }
+    ensures value { λ r. ⌜ Cases r (λ s. (fixed-told (now (levels .entry)) capacity table ≡ Ok tt) × (take (s .len) (s .levels) ≡ now (levels .entry))) (λ e. fixed-told (now (levels .entry)) capacity table ≡ Err e) ⌝ }
+    ensures room { λ r. ⌜ made r (λ _. (capacity ≤ 1024) × (capacity ≤ table)) ⌝ }
 {
     if capacity == 0 || capacity > 1024 {
         return Err(Refusal::Capacity);
@@ -229,7 +232,12 @@ fn cost(places: &[Place], s: usize, t: usize, level: i64) -> u64
 {
     let before = sums_before(places, s);
     let all = sums_before(places, t);
-    spread(t - s, all.sum - before.sum, all.squares - before.squares, level)
+    spread(
+        t - s,
+        all.sum - before.sum,
+        all.squares - before.squares,
+        level,
+    )
 }
 
 // Whether a level replaces the best before it: at a tie the lower one stays.
