@@ -1,0 +1,7 @@
+pub mod Products
+pub mod About
+pub mod Running
+pub mod Shows
+pub mod Holding
+pub mod Spreading
+pub mod Cutting
