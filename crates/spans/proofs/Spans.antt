@@ -1,0 +1,173 @@
+-- What the cells of a span table hold, and after a push.
+use mathlib.Core.Path.{_≡_, refl, sym, ap, ap₂, subst, _∙_}
+use mathlib.Core.Bool.{Bool, true, false, cond, _&&_}
+use mathlib.Core.List.{List, [], _∷_, _++_}
+use mathlib.Core.Logic.{_⊎_, ⊎-elim}
+use Prim.Native.Nat.{ℕ, zero, suc, _+_, _-_, _*_, _/_, _%_, _^_, _≤_, _<_}
+use native.Mathlib.Omega.{arith}
+use lib.Dec.{leb, eqb}
+use lib.ListN.{length, take, drop, getD, set}
+use Rattle.std.specs.declared.option.Option.{Option}
+use Rattle.std.specs.declared.option.Option.the-variants.{None, Some}
+use Rattle.std.specs.shelf.Lists.{between}
+use Rattle.std.proofs.shelf.Bits.{pow-pos, pow-add, pow-below, mul-add-lt, div-add-mod', div-mul-add, mod-mul-add}
+use Rattle.std.proofs.shelf.Lists.{take-take, take-at, take-set-le, take-more-set, length-set, length-push, length-take-le, getD-push}
+use Rattle.std.proofs.shelf.Edits.{between-none, between-more}
+use Rattle.std.proofs.shelf.Parts.{between-is}
+use Rattle.std.proofs.shelf.Tests.{both-ways, cases-lt, cases-eq, cases-bool, and-from, and-parts, and-cases, cond-true, cond-false, eq-eqb, eqb-true, le-leb, leb-true, leb-false, eqb-false}
+use Rattle.spans.specs.Joinings.{both, joining}
+use Rattle.spans.specs.Rows.{cell, span, Built, written, pushed-cell}
+use Rattle.spans.proofs.Joins.{joining-split, covering}
+
+module _ {T : Type 0} where
+  pub cell-getD : (l : List T) (i : ℕ) (d : T) → i < length l → cell l i ≡ Some (getD l i d)
+  cell-getD [] i d h = absurd (omega (arith, h))
+  cell-getD (x ∷ xs) zero d h = refl
+  cell-getD (x ∷ xs) (suc i) d h = cell-getD xs i d (omega (arith, h))
+
+  pub cell-set-same : (l : List T) (i : ℕ) (x : T) → i < length l → cell (set l i x) i ≡ Some x
+  cell-set-same [] i x h = absurd (omega (arith, h))
+  cell-set-same (y ∷ ys) zero x h = refl
+  cell-set-same (y ∷ ys) (suc i) x h = cell-set-same ys i x (omega (arith, h))
+
+  pub cell-set-other : (l : List T) (i j : ℕ) (x : T) → (i ≡ j → ⊥) → cell (set l j x) i ≡ cell l i
+  cell-set-other [] i j x h = refl
+  cell-set-other (y ∷ ys) zero zero x h = absurd (h refl)
+  cell-set-other (y ∷ ys) zero (suc j) x h = refl
+  cell-set-other (y ∷ ys) (suc i) zero x h = refl
+  cell-set-other (y ∷ ys) (suc i) (suc j) x h = cell-set-other ys i j x (λ e. h (ap suc e))
+
+  between-front : (n i j : ℕ) (l : List T) → j ≤ n → between i j (take n l) ≡ between i j l
+  between-front n i j l le = between-is (take n l) i j ∙ (ap (drop i) (take-take j n l le) ∙ sym (between-is l i j))
+
+columns : (a b c e n : ℕ) → e < c → n < c → a * c + e ≡ b * c + n → e ≡ n
+columns a b c e n p q h = sym (mod-mul-add a c e p) ∙ (ap (λ i. i % c) h ∙ mod-mul-add b c n q)
+
+rows-same : (a b c e n : ℕ) → e < c → n < c → a * c + e ≡ b * c + n → a ≡ b
+rows-same a b c e n p q h = sym (div-mul-add a c e p) ∙ (ap (λ i. i / c) h ∙ div-mul-add b c n q)
+
+double : (k : ℕ) → 2 ^ (k + 1) ≡ 2 ^ k + 2 ^ k
+double k = omega (arith, pow-add 2 k 1)
+
+-- 2^k is not above what 2^m is above
+below-power : (k m n : ℕ) → 2 ^ k ≤ n → n < 2 ^ m → k < m
+below-power k m n p q = ⊎-elim (λ lt. lt) (λ ge. absurd (⊎-elim (λ e. omega (arith, ap (λ i. 2 ^ i) e)) (λ ne. omega (arith, pow-below m k (omega (arith, ne)))) (cases-eq m k))) (cases-lt k m)
+
+module _ {T : Type 0} (join : T → T → T) (assoc : (x y z : T) → join (join x y) z ≡ join x (join y z)) (c n : ℕ) (old : List T) (x : T) (free : n < c) (room : n < length old) where
+  abbrev elements : List T
+  elements = take n old ++ (x ∷ [])
+
+  -- the rows below k have the span that ends at the new element
+  pub record Filled (k : ℕ) (now : List T) : Type 0 where
+    pub length : length now ≡ length old
+    pub front : take (n + 1) now ≡ elements
+    pub rows : (j : ℕ) → j < k → cell now (j * c + n) ≡ span join elements j n
+    pub others : (i : ℕ) → ((j : ℕ) → j < k → i ≡ j * c + n → ⊥) → cell now i ≡ cell old i
+
+  length-front : length (take n old) ≡ n
+  length-front = length-take-le n old (omega arith)
+
+  front-same : take n elements ≡ take n old
+  front-same = take-at (take n old) (x ∷ []) n length-front
+
+  -- spans that end before the new element
+  span-before : (k e : ℕ) → e < n → span join (take n old) k e ≡ span join elements k e
+  span-before k e lt = ap (λ l. span join l k e) (sym front-same) ∙ ap (joining join) (between-front n (e + 1 - 2 ^ k) (e + 1) elements (omega arith))
+
+  span-one : span join elements 0 n ≡ Some x
+  span-one =
+      let a : n + 1 - 1 ≡ n = omega arith in
+      ap (λ i. joining join (between i (n + 1) elements)) a
+      ∙ (ap (joining join) (between-more elements n n x (omega arith) (omega (arith, length-push (take n old) x, length-front)) ∙ ap (λ l. l ++ (getD elements n x ∷ [])) (between-none elements n))
+      ∙ ap Some (getD-push (take n old) x x n length-front))
+
+  zero-row : 0 * c + n ≡ n
+  zero-row = omega arith
+
+  pub filled-first : Filled 1 (set old n x)
+  filled-first = record {
+    length = length-set old n x;
+    front = take-more-set old n x room;
+    rows = λ j lt. let z : j ≡ 0 = omega (arith, lt) in subst (λ i. cell (set old n x) (i * c + n) ≡ span join elements i n) (sym z) (ap (cell (set old n x)) zero-row ∙ (cell-set-same old n x room ∙ sym span-one));
+    others = λ i ne. cell-set-other old i n x (λ e. ne 0 (omega arith) (e ∙ sym zero-row));
+  }
+
+  module _ (built : Built join c n old) (k : ℕ) (now : List T) (filled : Filled k now) (some : 0 < k) where
+    abbrev half : ℕ
+    half = 2 ^ (k - 1)
+
+    whole : 2 ^ k ≡ half + half
+    whole = ap (λ i. 2 ^ i) (omega arith) ∙ double (k - 1)
+
+    module _ (fits : 2 ^ k ≤ n + 1) where
+      half-small : half ≤ n
+      half-small = omega (arith, whole, fits, pow-pos (k - 1))
+
+      left : cell now ((k - 1) * c + (n - half)) ≡ span join elements (k - 1) (n - half)
+      left =
+          let pos = pow-pos (k - 1) in
+          let small = half-small in
+          filled .others ((k - 1) * c + (n - half)) (λ j lt e. let f = columns (k - 1) j c (n - half) n (omega arith) free e in omega (arith, f, pos, small))
+          ∙ (built (k - 1) (n - half) (omega (arith, whole, fits)) (omega (arith, pos, small)) ∙ span-before (k - 1) (n - half) (omega (arith, pos, small)))
+
+      right : cell now ((k - 1) * c + n) ≡ span join elements (k - 1) n
+      right = filled .rows (k - 1) (omega arith)
+
+      joins : both join (span join elements (k - 1) (n - half)) (span join elements (k - 1) n) ≡ span join elements k n
+      joins =
+          let small = half-small in
+          let a : n - half + 1 - half ≡ n + 1 - 2 ^ k = omega (arith, whole) in
+          let b : n - half + 1 ≡ n + 1 - half = omega arith in
+          ap₂ (λ i j. both join (joining join (between i j elements)) (span join elements (k - 1) n)) a b
+          ∙ sym (joining-split join assoc (n + 1 - 2 ^ k) (n + 1 - half) (n + 1) elements (omega (arith, whole)) (omega arith))
+
+      module _ (v : T) (value : both join (cell now ((k - 1) * c + n - half)) (cell now ((k - 1) * c + n)) ≡ Some v) (inside : k * c + n < length now) where
+        value-is : Some v ≡ span join elements k n
+        value-is =
+            let small = half-small in
+            let i : (k - 1) * c + n - half ≡ (k - 1) * c + (n - half) = omega arith in
+            sym value ∙ (ap₂ (both join) (ap (cell now) i ∙ left) right ∙ joins)
+
+        pub filled-more : Filled (k + 1) (set now (k * c + n) v)
+        filled-more = record {
+          length = length-set now (k * c + n) v ∙ filled .length;
+          front = take-set-le (n + 1) now (k * c + n) v (omega (arith, mul-add-lt 0 c 0 k some (omega arith))) ∙ filled .front;
+          rows = λ j lt. ⊎-elim
+              (λ e. subst (λ i. cell (set now (k * c + n) v) (i * c + n) ≡ span join elements i n) (sym e) (cell-set-same now (k * c + n) v inside ∙ value-is))
+              (λ ne. cell-set-other now (j * c + n) (k * c + n) v (λ e. ne (rows-same j k c n n free free e)) ∙ filled .rows j (omega (arith, lt, ne)))
+              (cases-eq j k);
+          others = λ i ne. cell-set-other now i (k * c + n) v (λ e. ne k (omega arith) e) ∙ filled .others i (λ j lt. ne j (omega (arith, lt)));
+        }
+
+  -- all rows are filled
+  module _ (built : Built join c n old) (k : ℕ) (now : List T) (filled : Filled k now) (low : (j : ℕ) → j < k → 2 ^ j ≤ n + 1) (high : n + 1 < 2 ^ k) where
+    pub filled-built : Built join c (n + 1) now
+    filled-built j e fits lt =
+        ⊎-elim
+        (λ is. subst (λ i. cell now (j * c + i) ≡ span join (take (n + 1) now) j i) (sym is) (filled .rows j (below-power j k (n + 1) (subst (λ i. 2 ^ j ≤ i + 1) is fits) high) ∙ ap (λ l. span join l j n) (sym (filled .front))))
+        (λ ne. filled .others (j * c + e) (λ i l h. ne (columns j i c e n (omega (arith, lt, free)) free h)) ∙ (built j e fits (omega (arith, lt, ne)) ∙ (span-before j e (omega (arith, lt, ne)) ∙ ap (λ l. span join l j e) (sym (filled .front)))))
+        (cases-eq e n)
+
+    pub filled-cells : (i : ℕ) → cell now i ≡ pushed-cell join c n old x i
+    filled-cells i =
+        ⊎-elim
+        (λ y. let p = and-parts (eqb (i % c) n) (leb (2 ^ (i / c)) (n + 1)) y in
+            let at : i ≡ (i / c) * c + n = sym (div-add-mod' i c) ∙ ap (λ m. (i / c) * c + m) (eqb-true (i % c) n (p .0)) in
+            ap (cell now) at ∙ (filled .rows (i / c) (below-power (i / c) k (n + 1) (leb-true _ _ (p .1)) high) ∙ sym (cond-true _ _ _ y)))
+        (λ z. filled .others i (λ j lt e. both-ways (written c n i) z (and-from _ _ (eq-eqb (i % c) n (ap (λ m. m % c) e ∙ mod-mul-add j c n free)) (le-leb _ _ (subst (λ m. 2 ^ m ≤ n + 1) (sym (ap (λ m. m / c) e ∙ div-mul-add j c n free)) (low j lt))))) ∙ sym (cond-false _ _ _ z))
+        (cases-bool (written c n i))
+
+module _ {T : Type 0} (join : T → T → T) (assoc : (x y z : T) → join (join x y) z ≡ join x (join y z)) (idem : (x : T) → join x x ≡ x) where
+  -- two spans that cover the segment and lie inside it
+  pub answered : (c n : ℕ) (cells : List T) → Built join c n cells → (s t k : ℕ) → s < t → t ≤ n → 2 ^ k ≤ t - s → t - s < 2 ^ (k + 1) → both join (cell cells (k * c + (s + 2 ^ k - 1))) (cell cells (k * c + (t - 1))) ≡ joining join (between s t (take n cells))
+  answered c n cells built s t k lt le low high =
+      let pos = pow-pos k in
+      let two = double k in
+      let a : s + 2 ^ k - 1 + 1 - 2 ^ k ≡ s = omega (arith, pos) in
+      let b : s + 2 ^ k - 1 + 1 ≡ s + 2 ^ k = omega (arith, pos) in
+      let d : t - 1 + 1 - 2 ^ k ≡ t - 2 ^ k = omega (arith, lt) in
+      let e : t - 1 + 1 ≡ t = omega (arith, lt) in
+      ap₂ (both join)
+          (built k (s + 2 ^ k - 1) (omega (arith, pos)) (omega (arith, low, le, lt, pos)) ∙ ap₂ (λ i j. joining join (between i j (take n cells))) a b)
+          (built k (t - 1) (omega (arith, low, lt)) (omega (arith, le, lt)) ∙ ap₂ (λ i j. joining join (between i j (take n cells))) d e)
+      ∙ covering join assoc idem s (t - 2 ^ k) (s + 2 ^ k) t (take n cells) (omega (arith, low, lt)) (omega (arith, two, high, lt)) (omega (arith, low, lt))
