@@ -1,2 +1,5 @@
 pub mod Joins
+pub mod Powers
 pub mod Spans
+pub mod Sets
+pub mod Fronts

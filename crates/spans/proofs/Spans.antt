@@ -4,13 +4,14 @@ use mathlib.Core.Bool.{Bool, true, false, cond, _&&_}
 use mathlib.Core.List.{List, [], _∷_, _++_}
 use mathlib.Core.Logic.{_⊎_, ⊎-elim}
 use Prim.Native.Nat.{ℕ, zero, suc, _+_, _-_, _*_, _/_, _%_, _^_, _≤_, _<_}
+use native.Mathlib.Nat.{add-mul}
 use native.Mathlib.Omega.{arith}
 use lib.Dec.{leb, eqb}
 use lib.ListN.{length, take, drop, getD, set}
 use Rattle.std.specs.declared.option.Option.{Option}
 use Rattle.std.specs.declared.option.Option.the-variants.{None, Some}
 use Rattle.std.specs.shelf.Lists.{between}
-use Rattle.std.proofs.shelf.Bits.{pow-pos, pow-add, pow-below, mul-add-lt, div-add-mod', div-mul-add, mod-mul-add}
+use Rattle.std.proofs.shelf.Bits.{pow-pos, pow-add, mul-add-lt, div-add-mod', div-mul-add, mod-mul-add}
 use Rattle.std.proofs.shelf.Lists.{take-take, take-at, take-set-le, take-more-set, length-set, length-push, length-take-le, getD-push}
 use Rattle.std.proofs.shelf.Edits.{between-none, between-more}
 use Rattle.std.proofs.shelf.Parts.{between-is}
@@ -18,6 +19,7 @@ use Rattle.std.proofs.shelf.Tests.{both-ways, cases-lt, cases-eq, cases-bool, a
 use Rattle.spans.specs.Joinings.{both, joining}
 use Rattle.spans.specs.Rows.{cell, span, Built, written, pushed-cell}
 use Rattle.spans.proofs.Joins.{joining-split, covering}
+use Rattle.spans.proofs.Powers.{below-power}
 
 module _ {T : Type 0} where
   pub cell-getD : (l : List T) (i : ℕ) (d : T) → i < length l → cell l i ≡ Some (getD l i d)
@@ -49,9 +51,13 @@ rows-same a b c e n p q h = sym (div-mul-add a c e p) ∙ (ap (λ i. i / c) h �
 double : (k : ℕ) → 2 ^ (k + 1) ≡ 2 ^ k + 2 ^ k
 double k = omega (arith, pow-add 2 k 1)
 
--- 2^k is not above what 2^m is above
-below-power : (k m n : ℕ) → 2 ^ k ≤ n → n < 2 ^ m → k < m
-below-power k m n p q = ⊎-elim (λ lt. lt) (λ ge. absurd (⊎-elim (λ e. omega (arith, ap (λ i. 2 ^ i) e)) (λ ne. omega (arith, pow-below m k (omega (arith, ne)))) (cases-eq m k))) (cases-lt k m)
+-- a row begins a whole row behind the one before
+pub rows-apart : (k c : ℕ) → 0 < k → (k - 1) * c + c ≡ k * c
+rows-apart k c some = let e : (k - 1) + 1 ≡ k = omega arith in omega (arith, sym (add-mul (k - 1) 1 c) ∙ ap (λ i. i * c) e)
+
+-- half of the span that ends at n lies before n
+pub half-before : (k n : ℕ) → 0 < k → 2 ^ k ≤ n + 1 → 2 ^ (k - 1) ≤ n
+half-before k n some fits = let e : 2 ^ k ≡ 2 ^ (k - 1) + 2 ^ (k - 1) = ap (λ i. 2 ^ i) (omega arith) ∙ double (k - 1) in omega (arith, pow-pos (k - 1))
 
 module _ {T : Type 0} (join : T → T → T) (assoc : (x y z : T) → join (join x y) z ≡ join x (join y z)) (c n : ℕ) (old : List T) (x : T) (free : n < c) (room : n < length old) where
   abbrev elements : List T
@@ -152,22 +158,20 @@ module _ {T : Type 0} (join : T → T → T) (assoc : (x y z : T) → join (join
     filled-cells i =
         ⊎-elim
         (λ y. let p = and-parts (eqb (i % c) n) (leb (2 ^ (i / c)) (n + 1)) y in
-            let at : i ≡ (i / c) * c + n = sym (div-add-mod' i c) ∙ ap (λ m. (i / c) * c + m) (eqb-true (i % c) n (p .0)) in
-            ap (cell now) at ∙ (filled .rows (i / c) (below-power (i / c) k (n + 1) (leb-true _ _ (p .1)) high) ∙ sym (cond-true _ _ _ y)))
+        let at : i ≡ (i / c) * c + n = sym (div-add-mod' i c) ∙ ap (λ m. (i / c) * c + m) (eqb-true (i % c) n (p .0)) in
+        ap (cell now) at ∙ (filled .rows (i / c) (below-power (i / c) k (n + 1) (leb-true _ _ (p .1)) high) ∙ sym (cond-true _ _ _ y)))
         (λ z. filled .others i (λ j lt e. both-ways (written c n i) z (and-from _ _ (eq-eqb (i % c) n (ap (λ m. m % c) e ∙ mod-mul-add j c n free)) (le-leb _ _ (subst (λ m. 2 ^ m ≤ n + 1) (sym (ap (λ m. m / c) e ∙ div-mul-add j c n free)) (low j lt))))) ∙ sym (cond-false _ _ _ z))
         (cases-bool (written c n i))
 
 module _ {T : Type 0} (join : T → T → T) (assoc : (x y z : T) → join (join x y) z ≡ join x (join y z)) (idem : (x : T) → join x x ≡ x) where
   -- two spans that cover the segment and lie inside it
-  pub answered : (c n : ℕ) (cells : List T) → Built join c n cells → (s t k : ℕ) → s < t → t ≤ n → 2 ^ k ≤ t - s → t - s < 2 ^ (k + 1) → both join (cell cells (k * c + (s + 2 ^ k - 1))) (cell cells (k * c + (t - 1))) ≡ joining join (between s t (take n cells))
-  answered c n cells built s t k lt le low high =
+  pub covered : (es : List T) (s t k : ℕ) → s < t → 2 ^ k ≤ t - s → t - s < 2 ^ (k + 1) → both join (span join es k (s + 2 ^ k - 1)) (span join es k (t - 1)) ≡ joining join (between s t es)
+  covered es s t k lt low high =
       let pos = pow-pos k in
       let two = double k in
       let a : s + 2 ^ k - 1 + 1 - 2 ^ k ≡ s = omega (arith, pos) in
       let b : s + 2 ^ k - 1 + 1 ≡ s + 2 ^ k = omega (arith, pos) in
       let d : t - 1 + 1 - 2 ^ k ≡ t - 2 ^ k = omega (arith, lt) in
       let e : t - 1 + 1 ≡ t = omega (arith, lt) in
-      ap₂ (both join)
-          (built k (s + 2 ^ k - 1) (omega (arith, pos)) (omega (arith, low, le, lt, pos)) ∙ ap₂ (λ i j. joining join (between i j (take n cells))) a b)
-          (built k (t - 1) (omega (arith, low, lt)) (omega (arith, le, lt)) ∙ ap₂ (λ i j. joining join (between i j (take n cells))) d e)
-      ∙ covering join assoc idem s (t - 2 ^ k) (s + 2 ^ k) t (take n cells) (omega (arith, low, lt)) (omega (arith, two, high, lt)) (omega (arith, low, lt))
+      ap₂ (both join) (ap₂ (λ i j. joining join (between i j es)) a b) (ap₂ (λ i j. joining join (between i j es)) d e)
+      ∙ covering join assoc idem s (t - 2 ^ k) (s + 2 ^ k) t es (omega (arith, low, lt)) (omega (arith, two, high, lt)) (omega (arith, low, lt))
