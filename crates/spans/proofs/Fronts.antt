@@ -1,5 +1,5 @@
 -- The cells that a capacity needs, and those behind them.
-use mathlib.Core.Path.{_≡_, refl, sym, ap, subst, _∙_}
+use mathlib.Core.Path.{_≡_, refl, sym, ap, ap₂, subst, _∙_}
 use mathlib.Core.Bool.{true, false, cond}
 use mathlib.Core.List.{List, [], _∷_, _++_}
 use mathlib.Core.Logic.{⊎-elim}
@@ -10,8 +10,9 @@ use lib.ListN.{length, take, drop}
 use Rattle.std.proofs.shelf.Bits.{div-add-mod'}
 use Rattle.std.proofs.shelf.Lists.{take-take, take-append-le, take-at, drop-at, length-take-le, length-append, length-drop, take-append-drop}
 use Rattle.std.proofs.shelf.Tests.{cases-lt, cases-bool, and-parts, eqb-true, leb-true, cond-true, cond-false, both-ways}
-use Rattle.spans.specs.Rows.{cells-for, cell, span, Built, written, pushed-cell}
-use Rattle.spans.proofs.Powers.{row-inside}
+use Rattle.spans.specs.Joinings.{both}
+use Rattle.spans.specs.Rows.{cells-for, cell, written, new-span, pushed-cell}
+use Rattle.spans.proofs.Powers.{power-le, row-inside}
 
 module _ {T : Type 0} where
   pub cell-take : (m : ℕ) (l : List T) (i : ℕ) → i < m → cell (take m l) i ≡ cell l i
@@ -28,12 +29,6 @@ module _ {T : Type 0} where
   cell-past (x ∷ xs) (y ∷ ys) l zero e le = absurd (omega (arith, le))
   cell-past (x ∷ xs) (y ∷ ys) l (suc i) e le = cell-past xs ys l i (omega (arith, e)) (omega (arith, le))
 
-  module _ (join : T → T → T) (c n : ℕ) (small : c ≤ 1024) (few : n ≤ c) where
-    -- two tables that agree in the cells that the capacity needs
-    pub built-same : (l l′ : List T) → ((i : ℕ) → i < cells-for c → cell l′ i ≡ cell l i) → take n l′ ≡ take n l → Built join c n l → Built join c n l′
-    built-same l l′ agree front built k e fits lt =
-        agree (k * c + e) (row-inside c k e small (omega (arith, lt, few)) fits) ∙ (built k e fits lt ∙ ap (λ es. span join es k e) (sym front))
-
   module _ (join : T → T → T) (c n : ℕ) (small : c ≤ 1024) (free : n < c) (l : List T) (room : cells-for c ≤ length l) where
     abbrev front : List T
     front = take (cells-for c) l
@@ -47,8 +42,19 @@ module _ {T : Type 0} where
     pub room-front : cells-for c ≤ length front
     room-front = omega (arith, length-front)
 
-    pub built-front : Built join c n l → Built join c n front
-    built-front = built-same join c n small (omega (arith, free)) l front (λ i lt. cell-take (cells-for c) l i lt) (take-take n (cells-for c) l (omega (arith, enough, free)))
+    new-span-front : (x : T) (k : ℕ) → 2 ^ k ≤ n + 1 → new-span join c n front x k ≡ new-span join c n l x k
+    unfolding new-span
+    new-span-front x zero fits = refl
+    new-span-front x (suc k) fits =
+        let le : 2 ^ k ≤ n + 1 = omega (arith, fits, power-le k (suc k) (omega arith)) in
+        ap₂ (both join) (cell-take (cells-for c) l (k * c + n - 2 ^ k) (omega (arith, row-inside c k n small free le))) (new-span-front x k le)
+
+    pushed-front : (x : T) (i : ℕ) → i < cells-for c → pushed-cell join c n front x i ≡ pushed-cell join c n l x i
+    pushed-front x i lt =
+        ⊎-elim
+        (λ y. cond-true _ _ _ y ∙ (new-span-front x (i / c) (leb-true _ _ (and-parts (eqb (i % c) n) (leb (2 ^ (i / c)) (n + 1)) y .1)) ∙ sym (cond-true _ _ _ y)))
+        (λ z. cond-false _ _ _ z ∙ (cell-take (cells-for c) l i lt ∙ sym (cond-false _ _ _ z)))
+        (cases-bool (written c n i))
 
     written-inside : (i : ℕ) → written c n i ≡ true → i < cells-for c
     written-inside i y =
@@ -78,12 +84,9 @@ module _ {T : Type 0} where
       pub after-elements : (x : T) → take (n + 1) new ≡ take n front ++ (x ∷ []) → take (n + 1) after ≡ take n l ++ (x ∷ [])
       after-elements x e = take-new (n + 1) (omega (arith, free)) ∙ (e ∙ ap (λ es. es ++ (x ∷ [])) (take-take n (cells-for c) l (omega (arith, enough, free))))
 
-      pub after-built : Built join c (n + 1) new → Built join c (n + 1) after
-      after-built = built-same join c (n + 1) small (omega (arith, free)) new after cell-new (take-new (n + 1) (omega (arith, free)))
-
       pub after-cells : (x : T) → ((i : ℕ) → cell new i ≡ pushed-cell join c n front x i) → (i : ℕ) → cell after i ≡ pushed-cell join c n l x i
       after-cells x told i =
           ⊎-elim
-          (λ lt. cell-new i lt ∙ (told i ∙ (ap (λ es. cond (written c n i) (span join (es ++ (x ∷ [])) (i / c) n) (cell front i)) (take-take n (cells-for c) l (omega (arith, enough, free))) ∙ ap (cond (written c n i) (span join (take n l ++ (x ∷ [])) (i / c) n)) (cell-take (cells-for c) l i lt))))
+          (λ lt. cell-new i lt ∙ (told i ∙ pushed-front x i lt))
           (λ ge. cell-past new front (drop (cells-for c) l) i long (omega (arith, ge, long-new)) ∙ (ap (λ m. cell m i) (take-append-drop (cells-for c) l) ∙ sym (cond-false _ _ _ (⊎-elim (λ y. absurd (omega (arith, written-inside i y, ge))) (λ z. z) (cases-bool (written c n i))))))
           (cases-lt i (cells-for c))

@@ -65,3 +65,11 @@ cells-small c small =
     omega (arith, is, mul-le c (k + 1) 1024 64 small (omega arith)))
     (λ none. let z : c ≡ 0 = omega (arith, none) in omega (arith, ap (λ i. i * row-count c) z))
     (cases-lt 0 c)
+
+-- the row of the longest spans that fit n elements
+pub row-of : (n : ℕ) → 0 < n → n ≤ 1024 → (2 ^ (row-count n - 1) ≤ n) × (n < 2 ^ (row-count n - 1 + 1))
+row-of n some small =
+    let p = leading-power n some (omega (arith, small)) in
+    let k = 63 - leadingZeros 64 n in
+    let is : row-count n - 1 ≡ k = omega (arith, rows-are n k (p .0) (p .1)) in
+    (subst (λ i. 2 ^ i ≤ n) (sym is) (p .0), subst (λ i. n < 2 ^ (i + 1)) (sym is) (p .1))

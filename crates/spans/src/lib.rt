@@ -1,15 +1,19 @@
 // The span table: the joining of any segment of its elements, from two spans that overlap.
 // Here are the interface of elements, the table's rows and the steps over them.
 ghost use mathlib.Core.Path.{_≡_};
-ghost use mathlib.Core.List.{List, _++_, _∷_, []};
+ghost use mathlib.Core.Bool.{true, false};
+ghost use mathlib.Core.List.{_++_, _∷_, []};
 ghost use Prim.Native.Nat.{ℕ, _+_, _-_, _*_, _^_, _<_, _≤_};
 ghost use lib.ListN.{length, getD, set, take, drop};
 ghost use denote.Ref.{name};
+ghost use Rattle.std.specs.declared.option.Option.{Option};
 ghost use Rattle.std.specs.declared.option.Option.the-variants.{Some};
-ghost use Rattle.std.specs.shelf.Lists.{between};
+ghost use Rattle.std.specs.Results.{isOk};
 ghost use Rattle.readings.specs.Makings.{making-told};
-ghost use Rattle.spans.specs.Joinings.{joining};
-ghost use Rattle.spans.specs.Rows.{cells-for, cell, span, Built, pushed-cell};
+ghost use Rattle.spans.specs.Joinings.{both, ok-of};
+ghost use Rattle.spans.specs.Rows.{row-count, cells-for, cell, pushed-cell, ready, push-told, joined-cells-told};
+use charges::Refusal;
+use readings::test_making;
 
 // An element that can be joined with others.
 pub trait Joining: Copy {
@@ -37,29 +41,14 @@ impl<'a, T: Joining> Rows<'a, T> {
         requires small { ⌜ capacity ≤ 1024 ⌝ }
         requires room { ⌜ cells-for capacity ≤ length (now (now self .cells)) ⌝ }
         requires free { ⌜ count < capacity ⌝ }
-        requires built { ⌜ ∥ Built (T·Joining .join) capacity count (now (now self .cells)) ∥₁ ⌝ }
         ensures length { λ _. ⌜ length (now (now (self .exit) .cells)) ≡ length (now (now (self .entry) .cells)) ⌝ }
         ensures elements { λ _. ⌜ take (count + 1) (now (now (self .exit) .cells)) ≡ take count (now (now (self .entry) .cells)) ++ (element ∷ []) ⌝ }
-        ensures built { λ _. ⌜ ∥ Built (T·Joining .join) capacity (count + 1) (now (now (self .exit) .cells)) ∥₁ ⌝ }
         ensures cells { λ _. ⌜ ((i : ℕ) → cell (now (now (self .exit) .cells)) i ≡ pushed-cell (T·Joining .join) capacity count (now (now (self .entry) .cells)) element i) ⌝ }
         ensures beyond { λ _. ⌜ drop (cells-for capacity) (now (now (self .exit) .cells)) ≡ drop (cells-for capacity) (now (now (self .entry) .cells)) ⌝ }
         ensures lender { λ _. ⌜ name (now (self .exit) .cells) ≡ name (now (self .entry) .cells) ⌝ }
     {
         let needed = cells_needed(capacity);
         push_in(&mut self.cells[0..needed], capacity, count, element);
-    }
-
-    // The joining of the elements s to t - 1.
-    fn joined(&self, capacity: usize, count: usize, s: usize, t: usize) -> T
-        requires small { ⌜ capacity ≤ 1024 ⌝ }
-        requires room { ⌜ cells-for capacity ≤ length (now (now self .cells)) ⌝ }
-        requires few { ⌜ count ≤ capacity ⌝ }
-        requires built { ⌜ ∥ Built (T·Joining .join) capacity count (now (now self .cells)) ∥₁ ⌝ }
-        requires some { ⌜ s < t ⌝ }
-        requires held { ⌜ t ≤ count ⌝ }
-        ensures value { λ r. ⌜ Some r ≡ joining (T·Joining .join) (between s t (take count (now (now (self .entry) .cells)))) ⌝ }
-    {
-        joined_in(self.cells, capacity, count, s, t)
     }
 }
 
@@ -118,29 +107,15 @@ fn push_in<T: Joining>(cells: &mut [T], capacity: usize, count: usize, element: 
     requires small { ⌜ capacity ≤ 1024 ⌝ }
     requires room { ⌜ cells-for capacity ≤ length (now cells) ⌝ }
     requires free { ⌜ count < capacity ⌝ }
-    requires built { ⌜ ∥ Built (T·Joining .join) capacity count (now cells) ∥₁ ⌝ }
     ensures length { λ _. ⌜ length (now (cells .exit)) ≡ length (now (cells .entry)) ⌝ }
     ensures elements { λ _. ⌜ take (count + 1) (now (cells .exit)) ≡ take count (now (cells .entry)) ++ (element ∷ []) ⌝ }
-    ensures built { λ _. ⌜ ∥ Built (T·Joining .join) capacity (count + 1) (now (cells .exit)) ∥₁ ⌝ }
     ensures cells { λ _. ⌜ ((i : ℕ) → cell (now (cells .exit)) i ≡ pushed-cell (T·Joining .join) capacity count (now (cells .entry)) element i) ⌝ }
+    ensures beyond { λ _. ⌜ drop (cells-for capacity) (now (cells .exit)) ≡ drop (cells-for capacity) (now (cells .entry)) ⌝ }
 {
     store(cells, count, element);
     for row in 1..greatest_power(count + 1) + 1 {
         fill(cells, capacity, count, row);
     }
-}
-
-// The span of a row that ends at an element.
-fn span_in<T: Joining>(cells: &[T], capacity: usize, count: usize, row: usize, last: usize) -> T
-    requires small { ⌜ capacity ≤ 1024 ⌝ }
-    requires room { ⌜ cells-for capacity ≤ length (now cells) ⌝ }
-    requires few { ⌜ count ≤ capacity ⌝ }
-    requires built { ⌜ ∥ Built (T·Joining .join) capacity count (now cells) ∥₁ ⌝ }
-    requires fits { ⌜ 2 ^ row ≤ last + 1 ⌝ }
-    requires held { ⌜ last < count ⌝ }
-    ensures value { λ r. ⌜ Some r ≡ span (T·Joining .join) (take count (now (cells .entry))) row last ⌝ }
-{
-    read(cells, row * capacity + last)
 }
 
 fn read<T: Joining>(cells: &[T], i: usize) -> T
@@ -150,29 +125,83 @@ fn read<T: Joining>(cells: &[T], i: usize) -> T
     cells[i]
 }
 
-// The row whose spans are the longest that fit the segment (s, t): one from its start and one to its end cover it.
-fn row_for<T: Joining>(cells: &[T], s: usize, t: usize) -> usize
-    requires some { ⌜ s < t ⌝ }
-    ensures reached { λ r. ⌜ 2 ^ r ≤ t - s ⌝ }
-    ensures small { λ r. ⌜ r < 64 ⌝ }
-    ensures covers { λ r. ⌜ ((es : List T) (x y : T) → Some x ≡ span (T·Joining .join) es r (s + 2 ^ r - 1) → Some y ≡ span (T·Joining .join) es r (t - 1) → Some (T·Joining .join x y) ≡ joining (T·Joining .join) (between s t es)) ⌝ }
-{
-    let _ = cells;
-    greatest_power(t - s)
-}
-
-// The joining of the elements s to t - 1.
-fn joined_in<T: Joining>(cells: &[T], capacity: usize, count: usize, s: usize, t: usize) -> T
+// The span of a row that ends at an element.
+fn span_in<T: Joining>(cells: &[T], capacity: usize, row: usize, last: usize) -> T
     requires small { ⌜ capacity ≤ 1024 ⌝ }
     requires room { ⌜ cells-for capacity ≤ length (now cells) ⌝ }
-    requires few { ⌜ count ≤ capacity ⌝ }
-    requires built { ⌜ ∥ Built (T·Joining .join) capacity count (now cells) ∥₁ ⌝ }
-    requires some { ⌜ s < t ⌝ }
-    requires held { ⌜ t ≤ count ⌝ }
-    ensures value { λ r. ⌜ Some r ≡ joining (T·Joining .join) (between s t (take count (now (cells .entry)))) ⌝ }
+    requires fits { ⌜ 2 ^ row ≤ last + 1 ⌝ }
+    requires column { ⌜ last < capacity ⌝ }
+    ensures value { λ r. ⌜ Some r ≡ cell (now (cells .entry)) (row * capacity + last) ⌝ }
 {
-    let row = row_for(cells, s, t);
-    let first = span_in(cells, capacity, count, row, s + power(row) - 1);
-    let last = span_in(cells, capacity, count, row, t - 1);
-    first.joined(last)
+    read(cells, row * capacity + last)
+}
+
+// The row of the longest spans that fit a segment of n elements.
+fn row_for(n: usize) -> usize
+    requires some { ⌜ 0 < n ⌝ }
+    ensures value { λ r. ⌜ r ≡ row-count n - 1 ⌝ }
+    ensures reached { λ r. ⌜ 2 ^ r ≤ n ⌝ }
+    ensures small { λ r. ⌜ r < 64 ⌝ }
+{
+    greatest_power(n)
+}
+
+fn answer_of<T: Joining>(first: T, last: T) -> Result<T, Refusal>
+    ensures value { λ r. ⌜ ((a b : Option T) → Some first ≡ a → Some last ≡ b → r ≡ ok-of (both (T·Joining .join) a b)) ⌝ }
+{
+    Ok(first.joined(last))
+}
+
+// Whether there are as many cells as the capacity needs.
+fn is_ready<T: Joining>(cells: &[T], capacity: usize) -> bool
+    ensures value { λ r. ⌜ r ≡ ready capacity (now (cells .entry)) ⌝ }
+    ensures small { λ r. ⌜ (r ≡ true → capacity ≤ 1024) ⌝ }
+    ensures room { λ r. ⌜ (r ≡ true → cells-for capacity ≤ length (now (cells .entry))) ⌝ }
+{
+    test_making(capacity, cells_needed(capacity), cells.len()).is_ok()
+}
+
+// Puts an element behind the first `count`, and works out one span a row. It takes the cells as they are: what they mean, their owner knows.
+pub fn push_cells<T: Joining>(
+    cells: &mut [T],
+    capacity: usize,
+    count: usize,
+    element: T,
+) -> Result<(), Refusal>
+    ensures answer { λ r. ⌜ r ≡ push-told capacity count (now (cells .entry)) ⌝ }
+    ensures length { λ _. ⌜ length (now (cells .exit)) ≡ length (now (cells .entry)) ⌝ }
+    ensures elements { λ r. ⌜ (isOk r ≡ true → take (count + 1) (now (cells .exit)) ≡ take count (now (cells .entry)) ++ (element ∷ [])) ⌝ }
+    ensures cells { λ r. ⌜ (isOk r ≡ true → (i : ℕ) → cell (now (cells .exit)) i ≡ pushed-cell (T·Joining .join) capacity count (now (cells .entry)) element i) ⌝ }
+    ensures beyond { λ r. ⌜ drop (cells-for capacity) (now (cells .exit)) ≡ drop (cells-for capacity) (now (cells .entry)) ⌝ }
+    ensures refused { λ r. ⌜ (isOk r ≡ false → now (cells .exit) ≡ now (cells .entry)) ⌝ }
+{
+    if !is_ready(cells, capacity) {
+        return Err(Refusal::Full);
+    }
+    if count >= capacity {
+        return Err(Refusal::Full);
+    }
+    push_in(cells, capacity, count, element);
+    Ok(())
+}
+
+// Joins the span from s on with the one up to t - 1, both as long as fit. It takes the cells as they are.
+pub fn joined_cells<T: Joining>(
+    cells: &[T],
+    capacity: usize,
+    s: usize,
+    t: usize,
+) -> Result<T, Refusal>
+    ensures value { λ r. ⌜ r ≡ joined-cells-told (T·Joining .join) capacity (now (cells .entry)) s t ⌝ }
+{
+    if !is_ready(cells, capacity) {
+        return Err(Refusal::Outside);
+    }
+    if s >= t || t > capacity {
+        return Err(Refusal::Outside);
+    }
+    let row = row_for(t - s);
+    let first = span_in(cells, capacity, row, s + power(row) - 1);
+    let last = span_in(cells, capacity, row, t - 1);
+    answer_of(first, last)
 }

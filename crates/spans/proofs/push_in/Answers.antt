@@ -1,17 +1,14 @@
 use mathlib.Core.Path.{_≡_, refl, sym, ap, ap₂, subst, _∙_}
-use mathlib.Core.Logic.{∥∥₁-map}
 use mathlib.Core.List.{List}
 use Prim.Native.Nat.{ℕ, _+_, _-_, _*_, _^_, _<_, _≤_}
 use native.Mathlib.Omega.{arith}
-use lib.ListN.{length, getD, set, take}
-use base.Stored.{coded-set}
-use Rattle.std.proofs.shelf.Lists.{length-set, take-set-le, take-more-set}
+use lib.ListN.{length, getD, set, take, drop}
+use Rattle.std.proofs.shelf.Lists.{length-set, take-set-le, take-more-set, drop-set-lt}
 use Rattle.std.proofs.shelf.Bits.{mul-add-lt}
 use Rattle.spans.specs.Joinings.{both}
-use Rattle.spans.specs.Rows.{Built}
+use Rattle.spans.specs.Rows.{cells-for}
 use Rattle.spans.proofs.Powers.{power-le, row-inside}
-use Rattle.spans.proofs.Sets.{told-equal}
-use Rattle.spans.proofs.Spans.{Filled, rows-apart, filled-first, filled-more, filled-built, filled-cells, cell-getD, half-before}
+use Rattle.spans.proofs.Spans.{Filled, rows-apart, filled-first, filled-more, filled-cells, cell-getD}
 use Rattle.spans.proofs.push_in.Needs as need
 
 pub store-requires : need.store-requires
@@ -21,7 +18,8 @@ pub loop-row-holds : need.loop-row-holds
 loop-row-holds g c = (
   refl,
   refl,
-  λ old x free room e built. subst (Filled (g .T·Joining .join) (g .T·Joining·met .assoc) (c .args .capacity) (c .args .count) old x free room 1) (sym e) (filled-first (g .T·Joining .join) (g .T·Joining·met .assoc) (c .args .capacity) (c .args .count) old x free room),
+  refl,
+  λ old x free room e. subst (Filled (g .T·Joining .join) (c .args .capacity) (c .args .count) old x free room 1) (sym e) (filled-first (g .T·Joining .join) (c .args .capacity) (c .args .count) old x free room),
 )
 
 -- the row has a span that ends at the new element
@@ -58,9 +56,10 @@ loop-row-again g c =
     let is = c .fill .ensures .after d in (
       ap length is ∙ (length-set now (k * w + n) v ∙ c .loop-row .inv .0),
       ap (take (n + 1)) is ∙ (take-set-le (n + 1) now (k * w + n) v (omega (arith, mul-add-lt 0 w 0 k some (omega (arith, c .pre .free)), c .pre .free)) ∙ c .loop-row .inv .1),
-      λ old x free room e built.
-          subst (Filled (g .T·Joining .join) (g .T·Joining·met .assoc) w n old x free room (k + 1)) (sym is)
-          (filled-more (g .T·Joining .join) (g .T·Joining·met .assoc) w n old x free room built k now (c .loop-row .inv .2 old x free room e built) some fits v
+      ap (drop (cells-for w)) is ∙ (drop-set-lt (cells-for w) now (k * w + n) v (row-inside w k n (c .pre .small) (c .pre .free) fits) ∙ c .loop-row .inv .2),
+      λ old x free room e.
+          subst (Filled (g .T·Joining .join) w n old x free room (k + 1)) (sym is)
+          (filled-more (g .T·Joining .join) w n old x free room k now (c .loop-row .inv .3 old x free room e) some fits v
           (ap₂ (both (g .T·Joining .join)) (cell-getD now ((k - 1) * w + n - 2 ^ (k - 1)) d (omega (arith, inside, before))) (cell-getD now ((k - 1) * w + n) d (omega (arith, inside, before)))) inside),
     )
 
@@ -74,11 +73,11 @@ returns g c =
     let now = c .loop-row .cells in
     let room : n < length old = omega (arith, c .pre .room, row-inside w 0 n (c .pre .small) (c .pre .free) (omega arith)) in
     let end : c .loop-row .row ≡ top + 1 = omega arith in
-    let filled = λ (b : Built (g .T·Joining .join) w n old). subst (λ k. Filled (g .T·Joining .join) (g .T·Joining·met .assoc) w n old x (c .pre .free) room k now) end (c .loop-row .inv .2 old x (c .pre .free) room (c .store .ensures .after) b) in
+    let filled = subst (λ k. Filled (g .T·Joining .join) w n old x (c .pre .free) room k now) end (c .loop-row .inv .3 old x (c .pre .free) room (c .store .ensures .after)) in
     let low = λ (j : ℕ) (lt : j < top + 1). reaches top j n (c .greatest-power-row-end .ensures .reached) lt in
     record {
       length = c .loop-row .inv .0 ∙ (ap length (c .store .ensures .after) ∙ length-set old n x);
       elements = c .loop-row .inv .1 ∙ (ap (take (n + 1)) (c .store .ensures .after) ∙ take-more-set old n x room);
-      built = ∥∥₁-map (c .pre .built) (λ b. filled-built (g .T·Joining .join) (g .T·Joining·met .assoc) w n old x (c .pre .free) room b (top + 1) now (filled b) low (c .greatest-power-row-end .ensures .passed));
-      cells = λ i. told-equal (coded-set (g .T .coded)) _ _ (c .pre .built) (λ b. filled-cells (g .T·Joining .join) (g .T·Joining·met .assoc) w n old x (c .pre .free) room b (top + 1) now (filled b) low (c .greatest-power-row-end .ensures .passed) i);
+      beyond = c .loop-row .inv .2 ∙ (ap (drop (cells-for w)) (c .store .ensures .after) ∙ drop-set-lt (cells-for w) old n x (omega (arith, row-inside w 0 n (c .pre .small) (c .pre .free) (omega arith))));
+      cells = filled-cells (g .T·Joining .join) w n old x (c .pre .free) room (top + 1) now filled low (c .greatest-power-row-end .ensures .passed);
     }

@@ -1,12 +1,11 @@
 use mathlib.Core.Path.{_≡_, refl, sym, ap, subst, _∙_}
 use mathlib.Core.List.{[], _∷_, _++_}
-use mathlib.Core.Logic.{∥∥₁-map}
 use Prim.Native.Nat.{_+_, _-_, _≤_}
 use native.Mathlib.Omega.{arith}
 use borrow.Rule.Slice.PartMut.{postOf}
 use lib.ListN.{length, take, drop}
-use Rattle.spans.specs.Rows.{cells-for, cell, Built, pushed-cell}
-use Rattle.spans.proofs.Fronts.{room-front, built-front, after-length, after-elements, after-built, after-cells, after-beyond}
+use Rattle.spans.specs.Rows.{cells-for, cell, pushed-cell}
+use Rattle.spans.proofs.Fronts.{room-front, after-length, after-elements, after-cells, after-beyond}
 use Rattle.spans.proofs.Rows.push.Needs as need
 
 pub push-in-requires : need.push-in-requires
@@ -20,7 +19,6 @@ push-in-requires g c κs =
       small = c .pre .small;
       room = subst (λ m. cells-for w ≤ length (take m l)) e (room-front join w n (c .pre .small) (c .pre .free) l (c .pre .room));
       free = c .pre .free;
-      built = ∥∥₁-map (c .pre .built) (λ b. subst (λ m. Built join w n (take m l)) e (built-front join w n (c .pre .small) (c .pre .free) l (c .pre .room) b));
     }
 
 pub returns : need.returns
@@ -37,7 +35,6 @@ returns g c =
     record {
       length = ap length is ∙ after-length join w n (c .pre .small) (c .pre .free) l (c .pre .room) new long;
       elements = ap (take (n + 1)) is ∙ after-elements join w n (c .pre .small) (c .pre .free) l (c .pre .room) new long x (c .push-in .ensures .elements ∙ ap (λ m. take n (take m l) ++ (x ∷ [])) e);
-      built = ∥∥₁-map (c .push-in .ensures .built) (λ b. subst (Built join w (n + 1)) (sym is) (after-built join w n (c .pre .small) (c .pre .free) l (c .pre .room) new long b));
       cells = λ i. ap (λ m. cell m i) is ∙ after-cells join w n (c .pre .small) (c .pre .free) l (c .pre .room) new long x (λ j. c .push-in .ensures .cells j ∙ ap (λ m. pushed-cell join w n (take m l) x j) e) i;
       beyond = ap (drop (cells-for w)) is ∙ after-beyond join w n (c .pre .small) (c .pre .free) l (c .pre .room) new long;
       lender = refl;
