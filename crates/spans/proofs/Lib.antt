@@ -3,3 +3,4 @@ pub mod Powers
 pub mod Spans
 pub mod Sets
 pub mod Fronts
+pub mod Telling

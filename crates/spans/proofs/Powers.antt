@@ -73,3 +73,7 @@ row-of n some small =
     let k = 63 - leadingZeros 64 n in
     let is : row-count n - 1 ≡ k = omega (arith, rows-are n k (p .0) (p .1)) in
     (subst (λ i. 2 ^ i ≤ n) (sym is) (p .0), subst (λ i. n < 2 ^ (i + 1)) (sym is) (p .1))
+
+-- at least one row
+pub cells-enough : (c : ℕ) → c ≤ 1024 → c ≤ cells-for c
+cells-enough c small = ⊎-elim (λ some. omega (arith, row-inside c 0 (c - 1) small (omega (arith, some)) (omega arith))) (λ none. omega (arith, none)) (cases-lt 0 c)

@@ -158,7 +158,14 @@ fn is_ready<T: Joining>(cells: &[T], capacity: usize) -> bool
     ensures small { λ r. ⌜ (r ≡ true → capacity ≤ 1024) ⌝ }
     ensures room { λ r. ⌜ (r ≡ true → cells-for capacity ≤ length (now (cells .entry))) ⌝ }
 {
-    test_making(capacity, cells_needed(capacity), cells.len()).is_ok()
+    test_table(cells, capacity).is_ok()
+}
+
+// Whether a span table of this capacity can be made over the cells.
+pub fn test_table<T: Joining>(cells: &[T], capacity: usize) -> Result<(), Refusal>
+    ensures value { λ r. ⌜ r ≡ making-told capacity (cells-for capacity) (length (now (cells .entry))) ⌝ }
+{
+    test_making(capacity, cells_needed(capacity), cells.len())
 }
 
 // Puts an element behind the first `count`, and works out one span a row. It takes the cells as they are: what they mean, their owner knows.
