@@ -19,6 +19,7 @@ use spans::joined_cells;
 use spans::push_cells;
 
 pub mod extent;
+pub mod range;
 
 pub impl Joining for Extent as ExtentJoining {
     ghost join = { hull };
@@ -114,15 +115,25 @@ impl<'a> Table<'a> {
     }
 
     // What the segment (s, t) costs whose lowest and highest reading are these.
-    fn fee_between(&self, count: usize, s: usize, t: usize, low: i64, high: i64) -> u64
-        requires small { ⌜ count ≤ 1024 ⌝ }
-        requires room { ⌜ count ≤ length (now (now self .cells)) ⌝ }
+    fn fee_between(
+        &self,
+        capacity: usize,
+        count: usize,
+        s: usize,
+        t: usize,
+        low: i64,
+        high: i64,
+    ) -> u64
+        requires small { ⌜ capacity ≤ 1024 ⌝ }
+        requires room { ⌜ cells-for capacity ≤ length (now (now self .cells)) ⌝ }
+        requires few { ⌜ count ≤ capacity ⌝ }
         requires some { ⌜ s < t ⌝ }
         requires within { ⌜ t ≤ count ⌝ }
         requires low_number { ⌜ number-reading low ≡ true ⌝ }
         requires high_number { ⌜ number-reading high ≡ true ⌝ }
         ensures fee { λ r. ⌜ (low ≡ lowest (segment (held-in (now (now (self .entry) .cells)) count) s t) → high ≡ highest (segment (held-in (now (now (self .entry) .cells)) count) s t) → r ≡ range-fee (segment (held-in (now (now (self .entry) .cells)) count) s t) .number) ⌝ }
     {
+        let _ = capacity;
         (t - s) as u64 * high.abs_diff(low)
     }
 }

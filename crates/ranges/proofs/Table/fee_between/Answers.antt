@@ -5,6 +5,7 @@ use lib.IntN.{natAbs, _-ℤ_}
 use mir.Syntax.{w64}
 use Rattle.std.proofs.shelf.Signed.{toZ-ofZ}
 use Rattle.readings.proofs.Segments.{length-segment}
+use Rattle.spans.proofs.Powers.{cells-enough}
 use Rattle.ranges.specs.Extents.{held-in}
 use Rattle.ranges.proofs.Extents.{length-held}
 use Rattle.ranges.proofs.Table.fee_between.Needs as need
@@ -12,7 +13,7 @@ use Rattle.ranges.proofs.Table.fee_between.Needs as need
 pub returns : need.returns
 returns c =
     let h = held-in (c .args .self .now .cells .now) (c .args .count) in
-    let long = length-held (c .args .self .now .cells .now) (c .args .count) (c .pre .room) in
+    let long = length-held (c .args .self .now .cells .now) (c .args .count) (omega (arith, c .pre .few, c .pre .room, cells-enough (c .args .capacity) (c .pre .small))) in
     let a = toZ-ofZ w64 (c .args .low) (c .fits .low) in
     let b = toZ-ofZ w64 (c .args .high) (c .fits .high) in
     record {
