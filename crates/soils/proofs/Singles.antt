@@ -50,11 +50,11 @@ symbol-is x h =
     let p = and-parts (leZ (pos 0) x) (leZ x (pos 31)) h in
     (at-least x (p .0), at-most x (p .0) (p .1))
   where
-  at-least : (x : ℤ) → leZ (pos 0) x ≡ true → x ≡ pos (natAbs x)
-  at-least x a = grind (arith, ints)
+    at-least : (x : ℤ) → leZ (pos 0) x ≡ true → x ≡ pos (natAbs x)
+    at-least x a = grind (arith, ints)
 
-  at-most : (x : ℤ) → leZ (pos 0) x ≡ true → leZ x (pos 31) ≡ true → natAbs x < 32
-  at-most x a b = grind (arith, ints)
+    at-most : (x : ℤ) → leZ (pos 0) x ≡ true → leZ x (pos 31) ≡ true → natAbs x < 32
+    at-most x a b = grind (arith, ints)
 
 pub symbol-single : (x : ℤ) → Symbol x → symbol-of (single x) ≡ x
 symbol-single x h = let p = symbol-is x h in ap pos (zeros-power 32 (natAbs x) (p .1)) ∙ sym (p .0)

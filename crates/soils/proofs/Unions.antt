@@ -24,8 +24,8 @@ or-assoc : (a b c : ℕ) → bitOr (bitOr a b) c ≡ bitOr a (bitOr b c)
 or-assoc =
     bin-ind (λ (n : ℕ). (b c : ℕ) → bitOr (bitOr n b) c ≡ bitOr n (bitOr b c)) (λ b c. refl)
     (λ n ih b c. by-digits (bitOr (bitOr n b) c) (bitOr n (bitOr b c))
-        (or-shr (bitOr n b) c 1 ∙ (ap (λ (x : ℕ). bitOr x (c / 2)) (or-shr n b 1) ∙ (ih (b / 2) (c / 2) ∙ sym (or-shr n (bitOr b c) 1 ∙ ap (bitOr (n / 2)) (or-shr b c 1)))))
-        (or-mod (bitOr n b) c 1 ∙ (ap (λ (x : ℕ). bitOr x (c % 2)) (or-mod n b 1) ∙ (digit-assoc (n % 2) (b % 2) (c % 2) (mod-below n 2 (omega arith)) (mod-below b 2 (omega arith)) (mod-below c 2 (omega arith)) ∙ sym (or-mod n (bitOr b c) 1 ∙ ap (bitOr (n % 2)) (or-mod b c 1))))))
+    (or-shr (bitOr n b) c 1 ∙ (ap (λ (x : ℕ). bitOr x (c / 2)) (or-shr n b 1) ∙ (ih (b / 2) (c / 2) ∙ sym (or-shr n (bitOr b c) 1 ∙ ap (bitOr (n / 2)) (or-shr b c 1)))))
+    (or-mod (bitOr n b) c 1 ∙ (ap (λ (x : ℕ). bitOr x (c % 2)) (or-mod n b 1) ∙ (digit-assoc (n % 2) (b % 2) (c % 2) (mod-below n 2 (omega arith)) (mod-below b 2 (omega arith)) (mod-below c 2 (omega arith)) ∙ sym (or-mod n (bitOr b c) 1 ∙ ap (bitOr (n % 2)) (or-mod b c 1))))))
 
 pub union-assoc : (x y z : Symbols) → union (union x y) z ≡ union x (union y z)
 union-assoc x y z = ap symbols (or-assoc (x .bits) (y .bits) (z .bits))
