@@ -1,0 +1,5 @@
+pub mod Unions
+pub mod Counts
+pub mod Singles
+pub mod Shows
+pub mod Charged

@@ -1,0 +1,2 @@
+pub mod Soils
+pub mod Sets
