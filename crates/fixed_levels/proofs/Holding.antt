@@ -11,9 +11,8 @@ use Rattle.std.proofs.shelf.Elements.{all-take, all-drop}
 use Rattle.std.proofs.shelf.Lists.{length-map, length-take-le, getD-map, getD-take, map-push, take-more-set, take-take, drop-take, take-append-drop}
 use Rattle.std.proofs.shelf.Signed.{ints}
 use Rattle.charges.specs.Rules.{all-lawful, segment}
-use Rattle.charges.proofs.Lawful.{lawful-from-all}
+use Rattle.charges.proofs.Lawful.{all-from-pass, pass-from-all, pass-push}
 use Rattle.readings.specs.Numbers.{number-reading, all-numbers}
-use Rattle.readings.proofs.Ranges.{all-from-numbers, numbers-push}
 use Rattle.readings.proofs.Segments.{length-segment}
 use Rattle.fixed_levels.specs.declared.place.Place.{Place}
 use Rattle.fixed_levels.specs.Fixed.{square, fixed-rules}
@@ -26,7 +25,7 @@ module _ (table : List Place) (count : ℕ) where
   length-held le = length-map (take count table) (λ p. p .reading) ∙ length-take-le count table le
 
   pub lawful-held : (ls : List ℤ) (c : ℕ) → all-numbers (held-in table count) ≡ true → all-lawful (fixed-rules ls c) (held-in table count) ≡ true
-  lawful-held ls c h = lawful-from-all (fixed-rules ls c) (held-in table count) (all-from-numbers (held-in table count) h)
+  lawful-held ls c h = pass-from-all number-reading (held-in table count) (all-from-pass number-reading (held-in table count) h)
 
   pub held-at : (i : ℕ) (d : Place) → i < count → count ≤ length table → getD (held-in table count) i (pos 0) ≡ getD table i d .reading
   held-at i d lt le =
@@ -42,7 +41,7 @@ module _ (table : List Place) (count : ℕ) where
     written-held = ap readings-of front ∙ map-push (λ q. q .reading) (take count table) p
 
     pub written-numbers : all-numbers (held-in table count) ≡ true → number-reading (p .reading) ≡ true → all-numbers (held-in (set table count p) (count + 1)) ≡ true
-    written-numbers h n = ap all-numbers written-held ∙ numbers-push (held-in table count) (p .reading) h n
+    written-numbers h n = ap all-numbers written-held ∙ pass-push number-reading (held-in table count) (p .reading) h n
 
     pub written-sums : summed (take count table) ≡ true → p .sum ≡ sum-of (held-in table count) +ℤ p .reading → p .squares ≡ squares-of (held-in table count) + square (p .reading) → summed (take (count + 1) (set table count p)) ≡ true
     written-sums h e f = ap summed front ∙ summed-push (take count table) p h e f
@@ -62,7 +61,7 @@ module _ (h : List ℤ) (s t : ℕ) (lt : s < t) where
   squares-cut = ap squares-of (sym cut) ∙ squares-append (take s h) (segment h s t)
 
   segment-numbers : all-numbers h ≡ true → All (λ x. number-reading x ≡ true) (segment h s t)
-  segment-numbers n = all-take (λ x. number-reading x ≡ true) (t - s) (drop s h) (all-drop (λ x. number-reading x ≡ true) s h (all-from-numbers h n))
+  segment-numbers n = all-take (λ x. number-reading x ≡ true) (t - s) (drop s h) (all-drop (λ x. number-reading x ≡ true) s h (all-from-pass number-reading h n))
 
   pub sum-bound : t ≤ length h → all-numbers h ≡ true → natAbs (sum-of (segment h s t)) ≤ (t - s) * 1000000
   sum-bound le n = subst (λ k. natAbs (sum-of (segment h s t)) ≤ k * 1000000) (length-segment h s t le) (sum-size (segment h s t) (segment-numbers n))

@@ -16,7 +16,8 @@ use Rattle.charges.specs.Levels.{LevelLaws, price-total, best-upto}
 use Rattle.charges.specs.Rules.{ChargeLaws}
 use Rattle.charges.proofs.Leveled.{leveled-splits, leveled-weight, best-within}
 use Rattle.readings.specs.Numbers.{number-reading, all-numbers}
-use Rattle.readings.proofs.Ranges.{number-apart, all-from-numbers}
+use Rattle.readings.proofs.Ranges.{number-apart}
+use Rattle.charges.proofs.Lawful.{all-from-pass}
 use Rattle.level_sets.specs.LevelSets.{rising, level-set-lawful}
 use Rattle.fixed_levels.specs.Fixed.{squared-distance, best, fixed-levels, fixed-level, fixed-rules}
 use Rattle.fixed_levels.specs.Sums.{squares-about}
@@ -43,7 +44,7 @@ module _ (ls : List ℤ) (lawful : level-set-lawful ls ≡ true) where
   set-some = set ls lawful .some
 
   pub set-number : (i : ℕ) → i < length ls → number-reading (getD ls i (pos 0)) ≡ true
-  set-number i lt = all-getD (λ x. number-reading x ≡ true) ls i (pos 0) lt (all-from-numbers ls (set ls lawful .numbers))
+  set-number i lt = all-getD (λ x. number-reading x ≡ true) ls i (pos 0) lt (all-from-pass number-reading ls (set ls lawful .numbers))
 
   pub best-offered : (u : List ℤ) → best ls u < length ls
   best-offered u = omega (arith, best-within whole-laws (fixed-levels ls) (length ls - 1) u, set-some)

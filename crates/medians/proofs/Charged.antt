@@ -7,14 +7,13 @@ use native.Mathlib.Numerals.{add-one}
 use native.Mathlib.Omega.{arith}
 use lib.IntN.{ℤ, pos}
 use lib.ListN.{length, getD, take, drop, length-take, length-drop}
-use Rattle.std.specs.shelf.Lawful.{all-pass}
 use Rattle.std.specs.shelf.Lists.{All, inserted}
 use Rattle.std.proofs.shelf.Edits.{length-inserted}
 use Rattle.std.proofs.shelf.Lists.{length-append, take-at, drop-at, drop-drop, drop-append-le, drop-all, append-assoc, take-append-le, take-append-drop, drop-take}
 use Rattle.std.proofs.shelf.Sums.{leading-le-length}
 use Rattle.charges.specs.Rules.{all-lawful, segment, Held}
 use Rattle.charges.proofs.Lawful.{all-from-pass, pass-push}
-use Rattle.readings.specs.Numbers.{number-reading}
+use Rattle.readings.specs.Numbers.{number-reading, all-numbers}
 use Rattle.readings.proofs.Segments.{length-segment}
 use Rattle.medians.specs.declared.place.Place.{Place}
 use Rattle.medians.specs.Medians.{distance, distances, median, median-rules}
@@ -37,7 +36,7 @@ module _ (table : List Place) (count : ℕ) (room : count ≤ length table) (ord
   ranked-held : ranked held ≡ take count table
   ranked-held = ranked-from-test (take count table) order
 
-  pub numbers-held : all-pass number-reading held ≡ true → All (λ p. number-reading (p .reading) ≡ true) (take count table)
+  pub numbers-held : all-numbers held ≡ true → All (λ p. number-reading (p .reading) ≡ true) (take count table)
   numbers-held h = subst (All (λ p. number-reading (p .reading) ≡ true)) ranked-held (all-ranked (λ x. number-reading x ≡ true) held (all-from-pass number-reading held h))
 
   module _ (s t : ℕ) (low : s < t) (high : t ≤ count) where
@@ -99,8 +98,8 @@ module _ (table : List Place) (count : ℕ) (room : count ≤ length table) (ord
     pub after-held : readings-of (take (count + 1) after) ≡ held ++ (x ∷ [])
     after-held = ap readings-of after-front ∙ readings-of-ranked (held ++ (x ∷ []))
 
-    pub after-numbers : all-pass number-reading held ≡ true → number-reading x ≡ true → all-pass number-reading (readings-of (take (count + 1) after)) ≡ true
-    after-numbers h l = ap (all-pass number-reading) after-held ∙ pass-push number-reading held x h l
+    pub after-numbers : all-numbers held ≡ true → number-reading x ≡ true → all-numbers (readings-of (take (count + 1) after)) ≡ true
+    after-numbers h l = ap all-numbers after-held ∙ pass-push number-reading held x h l
 
     pub after-length : length after ≡ length table
     after-length = length-append front (drop (count + 1) table) ∙ omega (arith, length-more, length-drop (count + 1) table)

@@ -10,8 +10,7 @@ ghost use denote.Ref.{name};
 ghost use Rattle.std.specs.shelf.Lists.{All, inserted};
 ghost use Rattle.amounts.specs.Kinds.{whole-kind};
 ghost use Rattle.charges.specs.Rules.{ChargeLaws, all-lawful, segment};
-ghost use Rattle.std.specs.shelf.Lawful.{all-pass};
-ghost use Rattle.readings.specs.Numbers.{number-reading};
+ghost use Rattle.readings.specs.Numbers.{number-reading, all-numbers};
 ghost use Rattle.medians.specs.Medians.{median, median-fee, median-rules};
 ghost use Rattle.medians.specs.Ranks.{place, rank, ranked-with, in-rank, held-in};
 ghost use Rattle.medians.specs.Walks.{in-segment, picked, share, balance};
@@ -33,7 +32,7 @@ impl<'a> Table<'a> {
         ensures lender { λ r. ⌜ name (r .places) ≡ name (places .entry) ⌝ }
         ensures held { λ r. ⌜ held-in (now (r .places)) 0 ≡ [] ⌝ }
         ensures order { λ r. ⌜ in-rank (take 0 (now (r .places))) ≡ true ⌝ }
-        ensures numbers { λ r. ⌜ all-pass number-reading (held-in (now (r .places)) 0) ≡ true ⌝ }
+        ensures numbers { λ r. ⌜ all-numbers (held-in (now (r .places)) 0) ≡ true ⌝ }
     {
         Table { places }
     }
@@ -42,10 +41,10 @@ impl<'a> Table<'a> {
     fn add(&mut self, count: usize, reading: i64)
         requires room { ⌜ count < length (now (now self .places)) ⌝ }
         requires order { ⌜ in-rank (take count (now (now self .places))) ≡ true ⌝ }
-        requires numbers { ⌜ all-pass number-reading (held-in (now (now self .places)) count) ≡ true ⌝ }
+        requires numbers { ⌜ all-numbers (held-in (now (now self .places)) count) ≡ true ⌝ }
         requires number { ⌜ number-reading reading ≡ true ⌝ }
         ensures order { λ _. ⌜ in-rank (take (count + 1) (now (now (self .exit) .places))) ≡ true ⌝ }
-        ensures numbers { λ _. ⌜ all-pass number-reading (held-in (now (now (self .exit) .places)) (count + 1)) ≡ true ⌝ }
+        ensures numbers { λ _. ⌜ all-numbers (held-in (now (now (self .exit) .places)) (count + 1)) ≡ true ⌝ }
         ensures held { λ _. ⌜ held-in (now (now (self .exit) .places)) (count + 1) ≡ held-in (now (now (self .entry) .places)) count ++ (reading ∷ []) ⌝ }
         ensures beyond { λ _. ⌜ ((c : ℕ) → count < c → drop c (now (now (self .exit) .places)) ≡ drop c (now (now (self .entry) .places))) ⌝ }
         ensures length { λ _. ⌜ length (now (now (self .exit) .places)) ≡ length (now (now (self .entry) .places)) ⌝ }
@@ -58,7 +57,7 @@ impl<'a> Table<'a> {
     fn len(&self, count: usize) -> usize
         requires room { ⌜ count ≤ length (now (now self .places)) ⌝ }
         requires order { ⌜ in-rank (take count (now (now self .places))) ≡ true ⌝ }
-        requires numbers { ⌜ all-pass number-reading (held-in (now (now self .places)) count) ≡ true ⌝ }
+        requires numbers { ⌜ all-numbers (held-in (now (now self .places)) count) ≡ true ⌝ }
         ensures same { λ r. ⌜ r ≡ count ⌝ }
         ensures value { λ r. ⌜ r ≡ length (held-in (now (now (self .entry) .places)) count) ⌝ }
         ensures lawful { λ r. ⌜ ((c : ℕ) → all-lawful (median-rules c) (held-in (now (now (self .entry) .places)) count) ≡ true) ⌝ }
@@ -83,7 +82,7 @@ impl<'a> Table<'a> {
     fn spread(&self, count: usize, s: usize, t: usize) -> u64
         requires room { ⌜ count ≤ length (now (now self .places)) ⌝ }
         requires order { ⌜ in-rank (take count (now (now self .places))) ≡ true ⌝ }
-        requires numbers { ⌜ all-pass number-reading (held-in (now (now self .places)) count) ≡ true ⌝ }
+        requires numbers { ⌜ all-numbers (held-in (now (now self .places)) count) ≡ true ⌝ }
         requires few { ⌜ count ≤ 1024 ⌝ }
         requires some { ⌜ s < t ⌝ }
         requires within { ⌜ t ≤ count ⌝ }

@@ -7,8 +7,7 @@ ghost use lib.ListN.{length, take, drop};
 ghost use denote.Ref.{name, now};
 ghost use Rattle.std.specs.Vec.{made};
 ghost use Rattle.charges.specs.Told.{take-told};
-ghost use Rattle.std.specs.shelf.Lawful.{all-pass};
-ghost use Rattle.readings.specs.Numbers.{number-reading};
+ghost use Rattle.readings.specs.Numbers.{number-reading, all-numbers};
 ghost use Rattle.readings.specs.Makings.{making-told, made-capacity};
 ghost use Rattle.medians.specs.Medians.{median, median-rules};
 ghost use Rattle.medians.specs.Ranks.{held-in, in-rank};
@@ -32,7 +31,7 @@ pub struct Median<'a> {
     ghost small: { capacity ≤ 1024 },
     ghost room: { capacity ≤ length (now (table .places)) },
     ghost order: { in-rank (take count (now (table .places))) ≡ true },
-    ghost numbers: { all-pass number-reading (held-in (now (table .places)) count) ≡ true },
+    ghost numbers: { all-numbers (held-in (now (table .places)) count) ≡ true },
 }
 
 impl<'a> Median<'a> {

@@ -11,8 +11,7 @@ ghost use denote.Ref.{name};
 ghost use Rattle.amounts.specs.Kinds.{whole-kind};
 ghost use Rattle.charges.specs.Rules.{ChargeLaws, all-lawful, segment};
 ghost use Rattle.charges.specs.Levels.{LevelLaws};
-ghost use Rattle.std.specs.shelf.Lawful.{all-pass};
-ghost use Rattle.readings.specs.Symbols.{symbol-reading};
+ghost use Rattle.readings.specs.Symbols.{symbol-reading, all-symbols};
 ghost use Rattle.modes.specs.Modes.{occurrences, differing, first-most, commonest, mode, mode-rules, mode-levels};
 
 pub mod mode;
@@ -27,10 +26,10 @@ impl<'a> Table<'a> {
     // Writes one reading more.
     fn add(&mut self, count: usize, reading: i64)
         requires room { ⌜ count < length (now (now self .places)) ⌝ }
-        requires symbols { ⌜ all-pass symbol-reading (take count (now (now self .places))) ≡ true ⌝ }
+        requires symbols { ⌜ all-symbols (take count (now (now self .places))) ≡ true ⌝ }
         requires symbol { ⌜ symbol-reading reading ≡ true ⌝ }
         ensures held { λ _. ⌜ take (count + 1) (now (now (self .exit) .places)) ≡ take count (now (now (self .entry) .places)) ++ (reading ∷ []) ⌝ }
-        ensures symbols { λ _. ⌜ all-pass symbol-reading (take (count + 1) (now (now (self .exit) .places))) ≡ true ⌝ }
+        ensures symbols { λ _. ⌜ all-symbols (take (count + 1) (now (now (self .exit) .places))) ≡ true ⌝ }
         ensures beyond { λ _. ⌜ ((c : ℕ) → count < c → drop c (now (now (self .exit) .places)) ≡ drop c (now (now (self .entry) .places))) ⌝ }
         ensures length { λ _. ⌜ length (now (now (self .exit) .places)) ≡ length (now (now (self .entry) .places)) ⌝ }
         ensures lender { λ _. ⌜ name (now (self .exit) .places) ≡ name (now (self .entry) .places) ⌝ }
@@ -41,7 +40,7 @@ impl<'a> Table<'a> {
     // How many readings its first `count` places hold: as many, and lawful ones.
     fn len(&self, count: usize) -> usize
         requires room { ⌜ count ≤ length (now (now self .places)) ⌝ }
-        requires symbols { ⌜ all-pass symbol-reading (take count (now (now self .places))) ≡ true ⌝ }
+        requires symbols { ⌜ all-symbols (take count (now (now self .places))) ≡ true ⌝ }
         ensures same { λ r. ⌜ r ≡ count ⌝ }
         ensures value { λ r. ⌜ r ≡ length (take count (now (now (self .entry) .places))) ⌝ }
         ensures lawful { λ r. ⌜ ((c : ℕ) → all-lawful (mode-rules c) (take count (now (now (self .entry) .places))) ≡ true) ⌝ }
@@ -52,7 +51,7 @@ impl<'a> Table<'a> {
     // The commonest symbol of the segment (s, t), and how many of its readings differ from it.
     fn mode_of(&self, count: usize, s: usize, t: usize) -> Commonest
         requires room { ⌜ count ≤ length (now (now self .places)) ⌝ }
-        requires symbols { ⌜ all-pass symbol-reading (take count (now (now self .places))) ≡ true ⌝ }
+        requires symbols { ⌜ all-symbols (take count (now (now self .places))) ≡ true ⌝ }
         requires some { ⌜ s < t ⌝ }
         requires within { ⌜ t ≤ count ⌝ }
         ensures symbol { λ r. ⌜ r .symbol ≡ commonest (segment (take count (now (now (self .entry) .places))) s t) ⌝ }
@@ -97,7 +96,7 @@ fn symbol_of(reading: i64) -> usize
 
 // How often each symbol occurs.
 fn tally(readings: &[i64]) -> [usize; 32]
-    requires { ⌜ all-pass symbol-reading (now readings) ≡ true ⌝ }
+    requires { ⌜ all-symbols (now readings) ≡ true ⌝ }
     ensures length { λ r. ⌜ length r ≡ 32 ⌝ }
     ensures counts { λ r. ⌜ ((i : ℕ) → i < 32 → getD r i 0 ≡ occurrences (now (readings .entry)) i) ⌝ }
 {
@@ -135,7 +134,7 @@ fn first_greatest(counts: &[usize]) -> usize
 
 // The commonest of some symbols.
 fn mode_in(readings: &[i64]) -> Commonest
-    requires { ⌜ all-pass symbol-reading (now readings) ≡ true ⌝ }
+    requires { ⌜ all-symbols (now readings) ≡ true ⌝ }
     ensures symbol { λ r. ⌜ r .symbol ≡ commonest (now (readings .entry)) ⌝ }
     ensures small { λ r. ⌜ r .symbol < 32 ⌝ }
     ensures others { λ r. ⌜ r .others ≡ differing (now (readings .entry)) (r .symbol) ⌝ }

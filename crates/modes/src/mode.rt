@@ -7,8 +7,7 @@ ghost use lib.ListN.{length, take, drop};
 ghost use denote.Ref.{name, now};
 ghost use Rattle.std.specs.Vec.{made};
 ghost use Rattle.charges.specs.Told.{take-told};
-ghost use Rattle.std.specs.shelf.Lawful.{all-pass};
-ghost use Rattle.readings.specs.Symbols.{symbol-reading};
+ghost use Rattle.readings.specs.Symbols.{symbol-reading, all-symbols};
 ghost use Rattle.readings.specs.Makings.{making-told, made-capacity};
 ghost use Rattle.modes.specs.Modes.{mode as commonest-symbol, mode-rules, mode-levels};
 use crate::Table;
@@ -30,7 +29,7 @@ pub struct Mode<'a> {
     ghost few: { count ≤ capacity },
     ghost small: { capacity ≤ 1024 },
     ghost room: { capacity ≤ length (now (table .places)) },
-    ghost symbols: { all-pass symbol-reading (take count (now (table .places))) ≡ true },
+    ghost symbols: { all-symbols (take count (now (table .places))) ≡ true },
 }
 
 impl<'a> Mode<'a> {

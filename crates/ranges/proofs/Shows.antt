@@ -15,7 +15,7 @@ use Rattle.std.proofs.shelf.Signed.{ints, clamps}
 use Rattle.std.proofs.shelf.Tests.{le-leb}
 use Rattle.amounts.specs.Kinds.{whole-kind}
 use Rattle.charges.specs.Rules.{ChargeLaws}
-use Rattle.charges.proofs.Lawful.{all-from-lawful}
+use Rattle.charges.proofs.Lawful.{all-from-pass}
 use Rattle.readings.specs.Numbers.{number-reading}
 use Rattle.readings.proofs.Ranges.{number-apart}
 use Rattle.ranges.specs.Ranges.{lowest, highest, lowest-of, highest-of, range, range-rules}
@@ -88,5 +88,5 @@ range-laws c few = record {
   capacity = few;
   bound = omega arith;
   splitting = λ u v p q short. le-leb _ _ (range-splits u v (p .some) (q .some));
-  weight = λ u p. range-weight u (p .some) (all-from-lawful (range-rules c) u (p .lawful));
+  weight = λ u p. range-weight u (p .some) (all-from-pass number-reading u (p .lawful));
 }

@@ -8,8 +8,8 @@ ghost use lib.ListN.{length, take, drop};
 ghost use lib.Signed.{_≤ℤ_};
 ghost use denote.Ref.{name};
 ghost use Rattle.amounts.specs.Kinds.{whole-kind};
-ghost use Rattle.charges.specs.Rules.{ChargeLaws, all-lawful, segment};
-ghost use Rattle.readings.specs.Numbers.{number-reading};
+ghost use Rattle.charges.specs.Rules.{ChargeLaws, segment};
+ghost use Rattle.readings.specs.Numbers.{number-reading, all-numbers};
 ghost use Rattle.spans.specs.Rows.{cells-for, Built};
 ghost use Rattle.ranges.specs.Ranges.{lowest, highest, range-fee, middle, range-rules};
 ghost use Rattle.ranges.specs.Extents.{hull, all-points, held-in};
@@ -88,7 +88,7 @@ impl<'a> Table<'a> {
         requires points { ⌜ all-points (take count (now (now self .cells))) ≡ true ⌝ }
         ensures same { λ r. ⌜ r ≡ count ⌝ }
         ensures value { λ r. ⌜ r ≡ length (held-in (now (now (self .entry) .cells)) count) ⌝ }
-        ensures lawful { λ r. ⌜ ((c : ℕ) → all-lawful (range-rules c) (held-in (now (now (self .entry) .cells)) count) ≡ true) ⌝ }
+        ensures lawful { λ r. ⌜ all-numbers (held-in (now (now (self .entry) .cells)) count) ≡ true ⌝ }
     {
         let _ = capacity;
         count

@@ -9,8 +9,8 @@ ghost use lib.IntN.{pos};
 ghost use lib.ListN.{length, take, drop};
 ghost use denote.Ref.{name};
 ghost use Rattle.amounts.specs.Kinds.{whole-kind};
-ghost use Rattle.charges.specs.Rules.{ChargeLaws, all-lawful, segment};
-ghost use Rattle.readings.specs.Symbols.{symbol-reading};
+ghost use Rattle.charges.specs.Rules.{ChargeLaws, segment};
+ghost use Rattle.readings.specs.Symbols.{symbol-reading, all-symbols};
 ghost use Rattle.spans.specs.Rows.{cells-for, Built};
 ghost use Rattle.soils.specs.Soils.{different, set-of, soils-fee, soils-rules};
 ghost use Rattle.soils.specs.Sets.{single, union, all-single, held-in};
@@ -77,7 +77,7 @@ impl<'a> Table<'a> {
         requires singles { ⌜ all-single (take count (now (now self .cells))) ≡ true ⌝ }
         ensures same { λ r. ⌜ r ≡ count ⌝ }
         ensures value { λ r. ⌜ r ≡ length (held-in (now (now (self .entry) .cells)) count) ⌝ }
-        ensures lawful { λ r. ⌜ ((c : ℕ) → all-lawful (soils-rules c) (held-in (now (now (self .entry) .cells)) count) ≡ true) ⌝ }
+        ensures lawful { λ r. ⌜ all-symbols (held-in (now (now (self .entry) .cells)) count) ≡ true ⌝ }
     {
         let _ = capacity;
         count

@@ -10,7 +10,7 @@ use borrow.Author.Needs.{needs}
 use Rattle.std.proofs.shelf.Elements.{all-getD}
 use Rattle.std.proofs.shelf.Signed.{toZ-ofZ}
 use Rattle.readings.specs.Numbers.{number-reading}
-use Rattle.readings.proofs.Ranges.{all-from-numbers}
+use Rattle.charges.proofs.Lawful.{all-from-pass}
 use Rattle.fixed_levels.specs.Fixed.{squared-distance}
 use Rattle.fixed_levels.specs.Sums.{held-in}
 use Rattle.fixed_levels.proofs.Holding.{length-held, held-at}
@@ -30,7 +30,7 @@ squared-distance-requires c κs =
     let fit : SFits w64 (p .reading) = search needs in
     let fit-l : SFits w64 l = search needs in
     let offered : c .args .level < length ls = subst (λ m. c .args .level < length m) (sym (c .as-slice .ensures .value)) (c .pre .offered) in
-    let lawful : number-reading (getD h at (pos 0)) ≡ true = all-getD (λ x. number-reading x ≡ true) h at (pos 0) (omega (arith, length-held ps n (c .pre .room), c .pre .held)) (all-from-numbers h (c .pre .numbers)) in (
+    let lawful : number-reading (getD h at (pos 0)) ≡ true = all-getD (λ x. number-reading x ≡ true) h at (pos 0) (omega (arith, length-held ps n (c .pre .room), c .pre .held)) (all-from-pass number-reading h (c .pre .numbers)) in (
       ap number-reading (toZ-ofZ w64 (p .reading) fit ∙ sym (held-at ps n at _ (c .pre .held) (c .pre .room))) ∙ lawful,
       ap number-reading (toZ-ofZ w64 l fit-l) ∙ set-number ls (c .as-slice .ensures .lawful) (c .args .level) offered,
     )

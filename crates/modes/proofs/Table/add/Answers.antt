@@ -3,11 +3,10 @@ use mathlib.Core.List.{_++_, _∷_, []}
 use Prim.Native.Nat.{_+_}
 use lib.ListN.{length, take, drop, set}
 use mir.Syntax.{w64}
-use Rattle.std.specs.shelf.Lawful.{all-pass}
 use Rattle.std.proofs.shelf.Lists.{take-more-set, drop-set-lt, length-set}
 use Rattle.std.proofs.shelf.Signed.{toZ-ofZ}
 use Rattle.charges.proofs.Lawful.{pass-push}
-use Rattle.readings.specs.Symbols.{symbol-reading}
+use Rattle.readings.specs.Symbols.{symbol-reading, all-symbols}
 use Rattle.modes.proofs.Table.add.Needs as need
 
 pub returns : need.returns
@@ -19,7 +18,7 @@ returns c =
     let held = ap (λ y. take (n + 1) (set old n y)) is ∙ take-more-set old n x (c .pre .room) in
     record {
       held = held;
-      symbols = ap (all-pass symbol-reading) held ∙ pass-push symbol-reading (take n old) x (c .pre .symbols) (c .pre .symbol);
+      symbols = ap (all-symbols) held ∙ pass-push symbol-reading (take n old) x (c .pre .symbols) (c .pre .symbol);
       beyond = λ k lt. drop-set-lt k old n _ lt;
       length = length-set old n _;
       lender = refl;

@@ -1,8 +1,7 @@
 use mathlib.Core.Path.{sym, ap, _∙_}
 use native.Mathlib.Omega.{arith}
 use lib.ListN.{take}
-use Rattle.std.specs.shelf.Lawful.{all-pass}
-use Rattle.readings.specs.Symbols.{symbol-reading}
+use Rattle.readings.specs.Symbols.{symbol-reading, all-symbols}
 use Rattle.readings.proofs.Segments.{segment-front, segment-passes}
 use Rattle.modes.specs.Modes.{commonest, differing}
 use Rattle.modes.proofs.Table.mode_of.Needs as need
@@ -10,7 +9,7 @@ use Rattle.modes.proofs.Table.mode_of.Needs as need
 pub mode-in-requires : need.mode-in-requires
 mode-in-requires c κs =
     let ps = c .args .self .now .places .now in
-    ap (all-pass symbol-reading) (sym (segment-front ps (c .args .count) (c .args .s) (c .args .t) (omega (arith, c .pre .some)) (c .pre .within)))
+    ap (all-symbols) (sym (segment-front ps (c .args .count) (c .args .s) (c .args .t) (omega (arith, c .pre .some)) (c .pre .within)))
     ∙ segment-passes symbol-reading (take (c .args .count) ps) (c .args .s) (c .args .t) (c .pre .symbols)
 
 pub returns : need.returns

@@ -1,7 +1,8 @@
 use mathlib.Core.Path.{refl, sym}
 use native.Mathlib.Omega.{arith}
 use lib.ListN.{take}
-use Rattle.charges.proofs.Lawful.{lawful-from-all}
+use Rattle.readings.specs.Numbers.{number-reading}
+use Rattle.charges.proofs.Lawful.{pass-from-all}
 use Rattle.spans.proofs.Powers.{cells-enough}
 use Rattle.ranges.specs.Ranges.{range-rules}
 use Rattle.ranges.specs.Extents.{held-in}
@@ -15,5 +16,5 @@ returns c =
     record {
       same = refl;
       value = sym (length-held cells n (omega (arith, c .pre .few, c .pre .room, cells-enough (c .args .capacity) (c .pre .small))));
-      lawful = λ k. lawful-from-all (range-rules k) (held-in cells n) (points-numbers (take n cells) (c .pre .points));
+      lawful = pass-from-all number-reading (held-in cells n) (points-numbers (take n cells) (c .pre .points));
     }

@@ -1,7 +1,8 @@
 use mathlib.Core.Path.{refl, sym}
 use native.Mathlib.Omega.{arith}
 use lib.ListN.{take}
-use Rattle.charges.proofs.Lawful.{lawful-from-all}
+use Rattle.readings.specs.Symbols.{symbol-reading}
+use Rattle.charges.proofs.Lawful.{pass-from-all}
 use Rattle.spans.proofs.Powers.{cells-enough}
 use Rattle.soils.specs.Soils.{soils-rules}
 use Rattle.soils.specs.Sets.{held-in}
@@ -15,5 +16,5 @@ returns c =
     record {
       same = refl;
       value = sym (length-held cells n (omega (arith, c .pre .few, c .pre .room, cells-enough (c .args .capacity) (c .pre .small))));
-      lawful = λ k. lawful-from-all (soils-rules k) (held-in cells n) (singles-symbols (take n cells) (c .pre .singles));
+      lawful = pass-from-all symbol-reading (held-in cells n) (singles-symbols (take n cells) (c .pre .singles));
     }
