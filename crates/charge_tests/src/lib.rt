@@ -1,4 +1,7 @@
-// Worked values of the charges.
+// Worked values of the charges; here those of the median, the mode and the lift.
+
+mod fixed;
+mod ranges_and_soils;
 
 #[cfg(test)]
 mod tests {

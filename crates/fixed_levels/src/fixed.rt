@@ -93,8 +93,8 @@ pub impl<'a> Charge for Fixed<'a> as FixedCharge {
 
     ghost held = { λ c. held-in (now (c .table .places)) (c .count) };
 
-    // the levels stay, places past the capacity are never written, and the memory is the one that was lent
-    ghost alike = { λ c d. (take (d .set .len) (d .set .levels) ≡ take (c .set .len) (c .set .levels)) × (drop (c .capacity) (now (d .table .places)) ≡ drop (c .capacity) (now (c .table .places))) × (name (d .table .places) ≡ name (c .table .places)) };
+    // the levels stay, places past those that hold readings are not written, and the memory is the one that was lent
+    ghost alike = { λ c d. (take (d .set .len) (d .set .levels) ≡ take (c .set .len) (c .set .levels)) × (drop (d .count) (now (d .table .places)) ≡ drop (d .count) (now (c .table .places))) × (name (d .table .places) ≡ name (c .table .places)) };
 
     fn take(&mut self, reading: i64) -> Result<(), Refusal> {
         self.admits(reading)?;
@@ -152,54 +152,5 @@ pub impl<'a> LevelCharge for Fixed<'a> as FixedLevelCharge {
         Ok(Whole {
             number: self.table.price(self.count, &self.set, place, level),
         })
-    }
-}
-
-#[cfg(test)]
-mod tests {
-    use super::*;
-    use amounts::WholeDebug;
-    use amounts::WholePartialEq;
-    use charges::RefusalDebug;
-    use charges::RefusalPartialEq;
-    use std::test::*;
-
-    const NOWHERE: Place = Place {
-        reading: 0,
-        sum: 0,
-        squares: 0,
-    };
-
-    #[test]
-    fn makings_are_tested() -> Result<(), Fail> {
-        let table = [NOWHERE; 2];
-        check_eq(Fixed::test(&[], 0, &table), Err(Refusal::Capacity))?;
-        check_eq(Fixed::test(&[10, 10], 3, &table), Err(Refusal::LevelSet))?;
-        check_eq(Fixed::test(&[0, 10], 3, &table), Err(Refusal::ShortTable))?;
-        check_eq(Fixed::test(&[0, 10], 2, &table), Ok(()))
-    }
-
-    #[test]
-    fn segments_cost_squared_distances() -> Result<(), Fail> {
-        let mut table = [NOWHERE; 3];
-        let mut charge = Fixed::new(&[0, 10], 3, &mut table);
-        check_eq(charge.take(1), Ok(()))?;
-        check_eq(charge.take(9), Ok(()))?;
-        check_eq(charge.take(6), Ok(()))?;
-        check_eq(charge.fee(1, 3), Ok(Whole { number: 17 }))?;
-        check_eq(charge.level(0, 3), Ok(10))?;
-        check_eq(charge.price(2, 1), Ok(Whole { number: 16 }))
-    }
-
-    #[test]
-    fn readings_are_numbers() -> Result<(), Fail> {
-        let mut table = [NOWHERE; 2];
-        let mut charge = Fixed::new(&[-5, 5], 2, &mut table);
-        check_eq(charge.take(1_000_001), Err(Refusal::Unlawful))?;
-        check_eq(charge.take(1_000_000), Ok(()))?;
-        check_eq(charge.take(0), Ok(()))?;
-        check_eq(charge.level(1, 2), Ok(-5))?;
-        check_eq(charge.price(2, 0), Err(Refusal::Outside))?;
-        check_eq(charge.price(1, 2), Err(Refusal::Outside))
     }
 }

@@ -98,25 +98,3 @@ fn array_of(levels: &[i64]) -> [i64; 32]
     array[..levels.len()].copy_from_slice(levels);
     array
 }
-
-#[cfg(test)]
-mod tests {
-    use super::*;
-    use charges::RefusalDebug;
-    use charges::RefusalPartialEq;
-    use std::test::*;
-
-    #[test]
-    fn levels_rise() -> Result<(), Fail> {
-        check_eq(LevelSet::new(&[0, 10]).err(), None)?;
-        check_eq(LevelSet::new(&[10, 10]).err(), Some(Refusal::LevelSet))?;
-        check_eq(LevelSet::new(&[10, 0]).err(), Some(Refusal::LevelSet))
-    }
-
-    #[test]
-    fn levels_are_some_few_numbers() -> Result<(), Fail> {
-        check_eq(LevelSet::new(&[]).err(), Some(Refusal::LevelSet))?;
-        check_eq(LevelSet::new(&[0; 33]).err(), Some(Refusal::LevelSet))?;
-        check_eq(LevelSet::new(&[1_000_001]).err(), Some(Refusal::LevelSet))
-    }
-}

@@ -132,35 +132,3 @@ pub impl<'a> Charge for Range<'a> as RangeCharge {
         is_number(reading) // and nothing else
     }
 }
-
-#[cfg(test)]
-mod tests {
-    use super::*;
-    use amounts::WholeDebug;
-    use amounts::WholePartialEq;
-    use charges::RefusalDebug;
-    use charges::RefusalPartialEq;
-    use std::test::*;
-
-    const NOTHING: Extent = Extent { low: 0, high: 0 };
-
-    #[test]
-    fn makings_are_tested() -> Result<(), Fail> {
-        let table = [NOTHING; 32];
-        check_eq(Range::test(&table, 0), Err(Refusal::Capacity))?;
-        check_eq(Range::test(&table, 1025), Err(Refusal::Capacity))?;
-        check_eq(Range::test(&table[0..31], 8), Err(Refusal::ShortTable))?;
-        check_eq(Range::test(&table, 8), Ok(()))
-    }
-
-    #[test]
-    fn segments_cost_their_range() -> Result<(), Fail> {
-        let mut table = [NOTHING; 5];
-        let mut charge = Range::new(&mut table, 2);
-        check_eq(charge.take(-4), Ok(()))?;
-        check_eq(charge.take(1), Ok(()))?;
-        check_eq(charge.fee(0, 2), Ok(Whole { number: 10 }))?;
-        check_eq(charge.level(0, 2), Ok(-1))?;
-        check_eq(charge.fee(1, 3), Err(Refusal::Outside))
-    }
-}
