@@ -15,6 +15,8 @@ ghost use Rattle.spans.specs.Rows.{row-count, cells-for, cell, pushed-cell, re
 use charges::Refusal;
 use readings::test_making;
 
+pub mod token;
+
 // An element that can be joined with others.
 pub trait Joining: Copy {
     ghost join: { Self → Self → Self };
@@ -33,6 +35,8 @@ pub trait Joining: Copy {
 #[derive(Drop)]
 struct Rows<'a, T> {
     cells: &'a mut [T],
+    count: usize,
+    capacity: usize,
 }
 
 impl<'a, T: Joining> Rows<'a, T> {
