@@ -38,11 +38,11 @@ use Rattle.spans.specs.Rows.{Built}
 use Rattle.spans.specs.declared.Rows.{Rows}
 use Rattle.spans.specs.contracts.Rows as rows
 use Rattle.spans.specs.declared.Joining.{Ghosts}
-use Rattle.spans.specs.contracts.token.Token as V
-use Rattle.spans.specs.contracts.token.Token.new as F
-use Rattle.spans.specs.contracts.token.Token.new.Key.{name as #self}
-use Rattle.spans.proofs.token.Token.new.Statement as stated
-use Rattle.spans.proofs.token.Token.new.Code as code
+use Rattle.spans.specs.contracts.Token as V
+use Rattle.spans.specs.contracts.Token.new as F
+use Rattle.spans.specs.contracts.Token.new.Key.{name as #self}
+use Rattle.spans.proofs.Token.new.Statement as stated
+use Rattle.spans.proofs.Token.new.Code as code
 
 module _ (Y : RattleType) (g : Ghosts (Y .Denot)) (d : Dict) where
   abbrev args : Args

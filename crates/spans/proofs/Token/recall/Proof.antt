@@ -40,11 +40,11 @@ use denote.Struct.Owning.{shape}
 use denote.Struct.Lending.{lent-out}
 use Rattle.std.specs.contracts.marker.PhantomData as mark
 use Rattle.spans.specs.declared.Joining.{Ghosts}
-use Rattle.spans.specs.contracts.token.Token as V
-use Rattle.spans.specs.contracts.token.Token.recall as F
-use Rattle.spans.specs.contracts.token.Token.recall.Key.{name as #self}
-use Rattle.spans.proofs.token.Token.recall.Statement as stated
-use Rattle.spans.proofs.token.Token.recall.Code as code
+use Rattle.spans.specs.contracts.Token as V
+use Rattle.spans.specs.contracts.Token.recall as F
+use Rattle.spans.specs.contracts.Token.recall.Key.{name as #self}
+use Rattle.spans.proofs.Token.recall.Statement as stated
+use Rattle.spans.proofs.Token.recall.Code as code
 
 module _ (Y : RattleType) (g : Ghosts (Y .Denot)) (d : Dict) where
   abbrev args : Args
