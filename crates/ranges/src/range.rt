@@ -136,10 +136,13 @@ pub impl<'a> Charge for Range<'a> as RangeCharge {
 #[cfg(test)]
 mod tests {
     use super::*;
+    use crate::extent::ExtentDebug;
+    use crate::extent::ExtentPartialEq;
     use amounts::WholeDebug;
     use amounts::WholePartialEq;
     use charges::RefusalDebug;
     use charges::RefusalPartialEq;
+    use spans::table::Spans;
     use std::test::*;
 
     const NOTHING: Extent = Extent { low: 0, high: 0 };
@@ -162,5 +165,24 @@ mod tests {
         check_eq(charge.fee(0, 2), Ok(Whole { number: 10 }))?;
         check_eq(charge.level(0, 2), Ok(-1))?;
         check_eq(charge.fee(1, 3), Err(Refusal::Outside))
+    }
+
+    #[test]
+    fn spans_join_segments() -> Result<(), Fail> {
+        let mut cells = [NOTHING; 5];
+        let mut spans = Spans::new(&mut cells, 2);
+        check_eq(spans.push(Extent { low: 3, high: 3 }), Ok(()))?;
+        check_eq(spans.push(Extent { low: 1, high: 1 }), Ok(()))?;
+        check_eq(spans.push(NOTHING), Err(Refusal::Full))?;
+        check_eq(spans.joined(0, 2), Ok(Extent { low: 1, high: 3 }))?;
+        check_eq(spans.joined(1, 1), Err(Refusal::Outside))
+    }
+
+    #[test]
+    fn readings_are_numbers() -> Result<(), Fail> {
+        let mut table = [NOTHING; 1];
+        let mut charge = Range::new(&mut table, 1);
+        check_eq(charge.take(1_000_001), Err(Refusal::Unlawful))?;
+        check_eq(charge.take(1_000_000), Ok(()))
     }
 }
