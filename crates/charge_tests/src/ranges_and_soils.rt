@@ -9,12 +9,16 @@ mod tests {
     use charges::Refusal;
     use charges::RefusalDebug;
     use charges::RefusalPartialEq;
+    use ranges::ExtentJoining;
     use ranges::extent::Extent;
+    use ranges::extent::ExtentDebug;
+    use ranges::extent::ExtentPartialEq;
     use ranges::range::Range;
     use ranges::range::RangeCharge;
     use soils::soils::Soils;
     use soils::soils::SoilsCharge;
     use soils::symbols::Symbols;
+    use spans::table::Spans;
     use std::test::*;
 
     const POINT: Extent = Extent { low: 0, high: 0 };
@@ -37,6 +41,25 @@ mod tests {
         check_eq(charge.fee(0, 2), Ok(Whole { number: 10 }))?;
         check_eq(charge.level(0, 2), Ok(-1))?;
         check_eq(charge.fee(1, 3), Err(Refusal::Outside))
+    }
+
+    #[test]
+    fn spans_join_segments() -> Result<(), Fail> {
+        let mut cells = [POINT; 5];
+        let mut spans = Spans::new(&mut cells, 2);
+        check_eq(spans.push(Extent { low: 3, high: 3 }), Ok(()))?;
+        check_eq(spans.push(Extent { low: 1, high: 1 }), Ok(()))?;
+        check_eq(spans.push(POINT), Err(Refusal::Full))?;
+        check_eq(spans.joined(0, 2), Ok(Extent { low: 1, high: 3 }))?;
+        check_eq(spans.joined(1, 1), Err(Refusal::Outside))
+    }
+
+    #[test]
+    fn range_readings_are_numbers() -> Result<(), Fail> {
+        let mut table = [POINT; 1];
+        let mut charge = Range::new(&mut table, 1);
+        check_eq(charge.take(1_000_001), Err(Refusal::Unlawful))?;
+        check_eq(charge.take(1_000_000), Ok(()))
     }
 
     const EMPTY: Symbols = Symbols { bits: 0 };

@@ -64,6 +64,10 @@ ready c cells = isOk (making-told c (cells-for c) (length cells))
 abbrev pub push-told : {T : Type 0} → ℕ → ℕ → List T → Result (Unit {0}) Refusal
 push-told c n cells = cond (ready c cells && ltb n c) (Ok tt) (Err Full)
 
+-- what a push onto n elements answers
+abbrev pub full-told : ℕ → ℕ → Result (Unit {0}) Refusal
+full-told c n = cond (leb c n) (Err Full) (Ok tt)
+
 -- the two spans of one row, as long as fit, from s on and up to t - 1, joined
 abbrev pub joined-cells : {T : Type 0} → (T → T → T) → ℕ → List T → ℕ → ℕ → Option T
 joined-cells join c cells s t = let k = row-count (t - s) - 1 in both join (cell cells (k * c + (s + 2 ^ k - 1))) (cell cells (k * c + (t - 1)))

@@ -2,18 +2,24 @@
 // Here are the interface of elements, the table's rows and the steps over them.
 ghost use mathlib.Core.Path.{_≡_};
 ghost use mathlib.Core.Bool.{true, false};
-ghost use mathlib.Core.List.{_++_, _∷_, []};
+ghost use mathlib.Core.List.{List, _++_, _∷_, []};
 ghost use Prim.Native.Nat.{ℕ, _+_, _-_, _*_, _^_, _<_, _≤_};
 ghost use lib.ListN.{length, getD, set, take, drop};
+ghost use base.Fml.{fex, ftrue};
 ghost use denote.Ref.{name};
+ghost use denote.Sharing.{said};
 ghost use Rattle.std.specs.declared.option.Option.{Option};
 ghost use Rattle.std.specs.declared.option.Option.the-variants.{Some};
 ghost use Rattle.std.specs.Results.{isOk};
+ghost use Rattle.std.specs.shelf.Lists.{between};
 ghost use Rattle.readings.specs.Makings.{making-told};
-ghost use Rattle.spans.specs.Joinings.{both, ok-of};
-ghost use Rattle.spans.specs.Rows.{row-count, cells-for, cell, pushed-cell, ready, push-told, joined-cells-told};
+ghost use Rattle.spans.specs.Joinings.{both, joining, ok-of};
+ghost use Rattle.spans.specs.Rows.{row-count, cells-for, cell, Built, pushed-cell, ready, push-told, joined-cells-told};
 use charges::Refusal;
 use readings::test_making;
+use std::marker::PhantomData;
+
+pub mod table;
 
 // An element that can be joined with others.
 pub trait Joining: Copy {
@@ -33,22 +39,98 @@ pub trait Joining: Copy {
 #[derive(Drop)]
 struct Rows<'a, T> {
     cells: &'a mut [T],
+    count: usize,
+    capacity: usize,
 }
 
 impl<'a, T: Joining> Rows<'a, T> {
-    // One element more, behind the first `count`.
-    fn push(&mut self, capacity: usize, count: usize, element: T)
-        requires small { ⌜ capacity ≤ 1024 ⌝ }
-        requires room { ⌜ cells-for capacity ≤ length (now (now self .cells)) ⌝ }
-        requires free { ⌜ count < capacity ⌝ }
+    // Of which no cell holds an element yet.
+    fn new(cells: &'a mut [T], capacity: usize) -> Rows<'a, T>
+        ensures cells { λ r. ⌜ now (r .cells) ≡ now (cells .entry) ⌝ }
+        ensures lender { λ r. ⌜ name (r .cells) ≡ name (cells .entry) ⌝ }
+        ensures count { λ r. ⌜ r .count ≡ 0 ⌝ }
+        ensures capacity { λ r. ⌜ r .capacity ≡ capacity ⌝ }
+        ensures built { λ r. ⌜ Built (T·Joining .join) (r .capacity) (r .count) (now (r .cells)) ⌝ }
+    {
+        Rows {
+            cells,
+            count: 0,
+            capacity,
+        }
+    }
+
+    // One element more.
+    fn push(&mut self, element: T)
+        requires small { ⌜ now self .capacity ≤ 1024 ⌝ }
+        requires room { ⌜ cells-for (now self .capacity) ≤ length (now (now self .cells)) ⌝ }
+        requires free { ⌜ now self .count < now self .capacity ⌝ }
+        requires built { ⌜ Built (T·Joining .join) (now self .capacity) (now self .count) (now (now self .cells)) ⌝ }
+        ensures count { λ _. ⌜ now (self .exit) .count ≡ now (self .entry) .count + 1 ⌝ }
+        ensures capacity { λ _. ⌜ now (self .exit) .capacity ≡ now (self .entry) .capacity ⌝ }
         ensures length { λ _. ⌜ length (now (now (self .exit) .cells)) ≡ length (now (now (self .entry) .cells)) ⌝ }
-        ensures elements { λ _. ⌜ take (count + 1) (now (now (self .exit) .cells)) ≡ take count (now (now (self .entry) .cells)) ++ (element ∷ []) ⌝ }
-        ensures cells { λ _. ⌜ ((i : ℕ) → cell (now (now (self .exit) .cells)) i ≡ pushed-cell (T·Joining .join) capacity count (now (now (self .entry) .cells)) element i) ⌝ }
-        ensures beyond { λ _. ⌜ drop (cells-for capacity) (now (now (self .exit) .cells)) ≡ drop (cells-for capacity) (now (now (self .entry) .cells)) ⌝ }
+        ensures elements { λ _. ⌜ take (now (self .exit) .count) (now (now (self .exit) .cells)) ≡ take (now (self .entry) .count) (now (now (self .entry) .cells)) ++ (element ∷ []) ⌝ }
+        ensures cells { λ _. ⌜ ((i : ℕ) → cell (now (now (self .exit) .cells)) i ≡ pushed-cell (T·Joining .join) (now (self .entry) .capacity) (now (self .entry) .count) (now (now (self .entry) .cells)) element i) ⌝ }
+        ensures built { λ _. ⌜ Built (T·Joining .join) (now (self .exit) .capacity) (now (self .exit) .count) (now (now (self .exit) .cells)) ⌝ }
         ensures lender { λ _. ⌜ name (now (self .exit) .cells) ≡ name (now (self .entry) .cells) ⌝ }
     {
+        let (count, capacity) = (self.count, self.capacity);
         let needed = cells_needed(capacity);
         push_in(&mut self.cells[0..needed], capacity, count, element);
+        self.count = count + 1;
+    }
+
+    // How many elements there are.
+    fn len(&self) -> usize
+        requires small { ⌜ now self .capacity ≤ 1024 ⌝ }
+        requires room { ⌜ cells-for (now self .capacity) ≤ length (now (now self .cells)) ⌝ }
+        requires few { ⌜ now self .count ≤ now self .capacity ⌝ }
+        ensures same { λ r. ⌜ r ≡ now (self .entry) .count ⌝ }
+        ensures value { λ r. ⌜ r ≡ length (take (now (self .entry) .count) (now (now (self .entry) .cells))) ⌝ }
+    {
+        self.count
+    }
+
+    // The joining of the elements s to t - 1.
+    fn joined(&self, s: usize, t: usize) -> Result<T, Refusal>
+        requires small { ⌜ now self .capacity ≤ 1024 ⌝ }
+        requires room { ⌜ cells-for (now self .capacity) ≤ length (now (now self .cells)) ⌝ }
+        requires few { ⌜ now self .count ≤ now self .capacity ⌝ }
+        requires built { ⌜ Built (T·Joining .join) (now self .capacity) (now self .count) (now (now self .cells)) ⌝ }
+        requires some { ⌜ s < t ⌝ }
+        requires held { ⌜ t ≤ now self .count ⌝ }
+        ensures value { λ r. ⌜ r ≡ ok-of (joining (T·Joining .join) (between s t (take (now (self .entry) .count) (now (now (self .entry) .cells))))) ⌝ }
+    {
+        joined_cells(self.cells, self.capacity, s, t)
+    }
+}
+
+// A token that says of cells that every span they keep is the joining of its elements. It has no size: what it speaks of is
+// for the proofs only.
+struct Token<T: Joining> {
+    mark: PhantomData<T>,
+    ghost cells: { List T },
+    ghost count: { ℕ },
+    ghost capacity: { ℕ },
+    ghost fact: owns { fex (Built (T·Joining .join) capacity count cells) (λ _. ftrue) },
+    ghost seen: lends { said (fex (Built (T·Joining .join) capacity count cells) (λ _. ftrue)) (λ _. tt) },
+}
+
+impl<T: Joining> Token<T> {
+    fn new(rows: &Rows<'_, T>) -> Token<T>
+        requires { ⌜ Built (T·Joining .join) (now rows .capacity) (now rows .count) (now (now rows .cells)) ⌝ }
+        ensures { λ r. ⌜ (r .cells ≡ now (now (rows .entry) .cells)) × (r .count ≡ now (rows .entry) .count) × (r .capacity ≡ now (rows .entry) .capacity) ⌝ }
+    {
+        Token { mark: PhantomData }
+    }
+
+    fn recall(&self)
+        ensures { λ _. ⌜ Built (T·Joining .join) (now (self .entry) .capacity) (now (self .entry) .count) (now (self .entry) .cells) ⌝ }
+    {}
+}
+
+impl<T: Joining> Drop for Token<T> {
+    fn drop(self) {
+        let Token { mark: _ } = self;
     }
 }
 
