@@ -199,7 +199,6 @@ mod tests {
         check_eq(charge.take(1_000_000), Ok(()))?;
         check_eq(charge.take(0), Ok(()))?;
         check_eq(charge.level(1, 2), Ok(-5))?;
-        check_eq(charge.price(2, 0), Err(Refusal::Outside))?;
         check_eq(charge.price(1, 2), Err(Refusal::Outside))
     }
 }
