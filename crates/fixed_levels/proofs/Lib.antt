@@ -5,3 +5,4 @@ pub mod Shows
 pub mod Holding
 pub mod Spreading
 pub mod Cutting
+pub mod Making

@@ -42,16 +42,26 @@ from-zero n z h = omega (arith, ints)
 cast-whole : (z : ℤ) (d : ℕ) → z ≡ pos d → SFits w64 z → T (nonNeg z) × Fits w64 (natAbs z)
 cast-whole z d e fit = let small : SFits w64 (pos d) = subst (SFits w64) e fit in subst (λ y. T (nonNeg y) × Fits w64 (natAbs y)) (sym e) (tt, search needs)
 
--- n readings with the sum s and the squares q, the level l, and its square w
-module _ (n : ℕ) (s : ℤ) (q : ℕ) (l : ℤ) (w : ℕ) (few : n ≤ 1024) (size : natAbs s ≤ n * 1000000) (small : q ≤ n * 1000000000000) (number : number-reading l ≡ true) (fs : SFits w64 s) (fl : SFits w64 l) (is : w ≡ square (back l)) where
+-- n readings with the sum s and the squares q, the level l, and its square w as it was worked out
+pub record Given (n : ℕ) (s : ℤ) (q : ℕ) (l : ℤ) (w : ℕ) : Type 0 where
+  pub few : n ≤ 1024
+  pub size : natAbs s ≤ n * 1000000
+  pub small : q ≤ n * 1000000000000
+  pub number : number-reading l ≡ true
+  pub fits-sum : SFits w64 s
+  pub fits-level : SFits w64 l
+  pub squared : w ≡ square (back l)
+  pub whole : (pos 2 *ℤ (l *ℤ s)) ≤ℤ pos (q + n * square l)
+
+module _ {n : ℕ} {s : ℤ} {q : ℕ} {l : ℤ} {w : ℕ} (g : Given n s q l w) where
   square-back : w ≡ square l
-  square-back = is ∙ ap square (toZ-ofZ w64 l fl)
+  square-back = g .squared ∙ ap square (toZ-ofZ w64 l (g .fits-level))
 
   counted : n * w ≤ 1024 * 1000000000000
-  counted = mul-le n w 1024 1000000000000 few (omega (arith, square-back, number-square l number))
+  counted = mul-le n w 1024 1000000000000 (g .few) (omega (arith, square-back, number-square l (g .number)))
 
   above : q + n * w ≤ 2048000000000000
-  above = omega (arith, counted)
+  above = omega (arith, counted, g .small, g .few)
 
   pub count-fits : Fits w64 (n * w)
   count-fits = omega (arith, counted)
@@ -63,10 +73,10 @@ module _ (n : ℕ) (s : ℤ) (q : ℕ) (l : ℤ) (w : ℕ) (few : n ≤ 1024) (s
   above-cast = let h = above in omega (arith, ints)
 
   product-small : natAbs (l *ℤ s) ≤ 1024000000000000
-  product-small = omega (arith, natAbs-product l s, mul-le (natAbs l) (natAbs s) 1000000 1024000000 (number-size l number) (omega arith))
+  product-small = omega (arith, natAbs-product l s, mul-le (natAbs l) (natAbs s) 1000000 1024000000 (number-size l (g .number)) (omega (arith, g .size, g .few)))
 
   product-is : back l *ℤ back s ≡ l *ℤ s
-  product-is = same-product (toZ-ofZ w64 l fl) (toZ-ofZ w64 s fs)
+  product-is = same-product (toZ-ofZ w64 l (g .fits-level)) (toZ-ofZ w64 s (g .fits-sum))
 
   pub product-fits : SFits w64 (back l *ℤ back s)
   product-fits = subst (SFits w64) (sym product-is) (small-fits (l *ℤ s) product-small)
@@ -90,15 +100,14 @@ module _ (n : ℕ) (s : ℤ) (q : ℕ) (l : ℤ) (w : ℕ) (few : n ≤ 1024) (s
   result-back : result ≡ pos (q + n * square l) -ℤ pos 2 *ℤ (l *ℤ s)
   result-back = toZ-ofZ w64 _ less-fits ∙ (less-is ∙ ap (λ k. pos (q + n * k) -ℤ pos 2 *ℤ (l *ℤ s)) square-back)
 
-  module _ (whole : (pos 2 *ℤ (l *ℤ s)) ≤ℤ pos (q + n * square l)) where
-    whole-result : result ≡ pos (natAbs (pos (q + n * square l) -ℤ pos 2 *ℤ (l *ℤ s)))
-    whole-result = result-back ∙ sym (from-zero (q + n * square l) (pos 2 *ℤ (l *ℤ s)) whole)
+  whole-result : result ≡ pos (natAbs (pos (q + n * square l) -ℤ pos 2 *ℤ (l *ℤ s)))
+  whole-result = result-back ∙ sym (from-zero (q + n * square l) (pos 2 *ℤ (l *ℤ s)) (g .whole))
 
-    result-fits : SFits w64 result
-    result-fits = subst (SFits w64) (sym (toZ-ofZ w64 _ less-fits)) less-fits
+  result-fits : SFits w64 result
+  result-fits = subst (SFits w64) (sym (toZ-ofZ w64 _ less-fits)) less-fits
 
-    pub result-cast : T (nonNeg result) × Fits w64 (natAbs result)
-    result-cast = cast-whole result _ whole-result result-fits
+  pub result-cast : T (nonNeg result) × Fits w64 (natAbs result)
+  result-cast = cast-whole result _ whole-result result-fits
 
-    pub result-is : pos (natAbs result) ≡ pos (q + n * square l) -ℤ pos 2 *ℤ (l *ℤ s)
-    result-is = ap (λ z. pos (natAbs z)) result-back ∙ from-zero (q + n * square l) (pos 2 *ℤ (l *ℤ s)) whole
+  pub result-is : pos (natAbs result) ≡ pos (q + n * square l) -ℤ pos 2 *ℤ (l *ℤ s)
+  result-is = ap (λ z. pos (natAbs z)) result-back ∙ from-zero (q + n * square l) (pos 2 *ℤ (l *ℤ s)) (g .whole)

@@ -4,7 +4,7 @@ ghost use mathlib.Core.Path.{_≡_};
 ghost use mathlib.Core.Bool.{true};
 ghost use mathlib.Core.List.{List, _++_, _∷_, []};
 ghost use Prim.Native.Nat.{ℕ, _+_, _*_, _-_, _<_, _≤_};
-ghost use lib.Dec.{ltb};
+ghost use lib.Dec.{leb, ltb};
 ghost use lib.IntN.{ℤ, pos, natAbs, _+ℤ_, _-ℤ_, _*ℤ_};
 ghost use lib.ListN.{length, getD, take, drop};
 ghost use lib.Signed.{_≤ℤ_};
@@ -120,6 +120,13 @@ fn show_laws(capacity: usize)
     ensures levels { λ _. ⌜ ((ls : List ℤ) → level-set-lawful ls ≡ true → LevelLaws whole-kind (fixed-rules ls capacity) (fixed-level ls) (fixed-levels ls)) ⌝ }
 {}
 
+// Whether a table of so many places has one for each reading.
+fn has_room(capacity: usize, table: usize) -> bool
+    ensures value { λ r. ⌜ r ≡ leb capacity table ⌝ }
+{
+    capacity <= table
+}
+
 // The level set of a charge that can be made of these levels, this capacity and a table of so many places.
 fn tested(levels: &[i64], capacity: usize, table: usize) -> Result<LevelSet, Refusal>
     ensures value { λ r. ⌜ Cases r (λ s. (fixed-told (now (levels .entry)) capacity table ≡ Ok tt) × (take (s .len) (s .levels) ≡ now (levels .entry))) (λ e. fixed-told (now (levels .entry)) capacity table ≡ Err e) ⌝ }
@@ -131,7 +138,7 @@ fn tested(levels: &[i64], capacity: usize, table: usize) -> Result<LevelSet, Ref
     match LevelSet::new(levels) {
         Err(refusal) => Err(refusal),
         Ok(set) => {
-            if table < capacity {
+            if !has_room(capacity, table) {
                 return Err(Refusal::ShortTable);
             }
             Ok(set)

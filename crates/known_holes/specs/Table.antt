@@ -90,12 +90,12 @@ abbrev pub table : List Row
 table =
     search-row M wholes pruned (pos 3 ∷ (pos 3 ∷ (pos 4 ∷ (pos 10 ∷ (pos 10 ∷ []))))) 2 (5, 0) (3 ∷ (5 ∷ [])) (10, 4) (pos 3 ∷ (pos 10 ∷ []))
     ∷ (search-row M wholes pruned (pos 5 ∷ (pos 5 ∷ [])) 0 (0, 0) (1 ∷ (2 ∷ [])) (2, 2) (pos 5 ∷ (pos 5 ∷ []))
-      ∷ (search-row M pairs pruned (pos 5 ∷ (pos 5 ∷ [])) 0 (0, 1) (2 ∷ []) (3, 1) (pos 5 ∷ [])
-        ∷ (search-row M wholes pruned (pos 1 ∷ (pos 2 ∷ [])) 1 (2, 0) (1 ∷ (2 ∷ [])) (3, 0) (pos 1 ∷ (pos 2 ∷ []))
-          ∷ (search-row S wholes pruned (pos 2 ∷ (pos 2 ∷ (pos 5 ∷ (pos 2 ∷ (pos 2 ∷ []))))) 1 (2, 0) (5 ∷ []) (10, 4) (pos 2 ∷ [])
-            ∷ (search-row S wholes by-level (pos 2 ∷ (pos 2 ∷ (pos 5 ∷ (pos 2 ∷ (pos 2 ∷ []))))) 1 (2, 0) (5 ∷ []) (160, 3) (pos 2 ∷ [])
-              ∷ (search-row (Q (pos 0 ∷ (pos 10 ∷ []))) wholes pruned (pos 1 ∷ (pos 9 ∷ (pos 6 ∷ []))) 5 (28, 0) (1 ∷ (3 ∷ [])) (5, 2) (pos 0 ∷ (pos 10 ∷ []))
-                ∷ (layer-row R (negsuc 3 ∷ (pos 1 ∷ [])) 10 (negsuc 0) ∷ (layer-row D (pos 1 ∷ (pos 4 ∷ (pos 4 ∷ []))) 3 (pos 18) ∷ []))))))))
+    ∷ (search-row M pairs pruned (pos 5 ∷ (pos 5 ∷ [])) 0 (0, 1) (2 ∷ []) (3, 1) (pos 5 ∷ [])
+    ∷ (search-row M wholes pruned (pos 1 ∷ (pos 2 ∷ [])) 1 (2, 0) (1 ∷ (2 ∷ [])) (3, 0) (pos 1 ∷ (pos 2 ∷ []))
+    ∷ (search-row S wholes pruned (pos 2 ∷ (pos 2 ∷ (pos 5 ∷ (pos 2 ∷ (pos 2 ∷ []))))) 1 (2, 0) (5 ∷ []) (10, 4) (pos 2 ∷ [])
+    ∷ (search-row S wholes by-level (pos 2 ∷ (pos 2 ∷ (pos 5 ∷ (pos 2 ∷ (pos 2 ∷ []))))) 1 (2, 0) (5 ∷ []) (160, 3) (pos 2 ∷ [])
+    ∷ (search-row (Q (pos 0 ∷ (pos 10 ∷ []))) wholes pruned (pos 1 ∷ (pos 9 ∷ (pos 6 ∷ []))) 5 (28, 0) (1 ∷ (3 ∷ [])) (5, 2) (pos 0 ∷ (pos 10 ∷ []))
+    ∷ (layer-row R (negsuc 3 ∷ (pos 1 ∷ [])) 10 (negsuc 0) ∷ (layer-row D (pos 1 ∷ (pos 4 ∷ (pos 4 ∷ []))) 3 (pos 18) ∷ []))))))))
 
 -- every row is as expected
 abbrev pub Known : Type 0
