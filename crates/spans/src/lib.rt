@@ -35,7 +35,7 @@ pub trait Joining: Copy {
         ensures value { λ r. ⌜ r ≡ join self other ⌝ };
 }
 
-// The lent memory. Its rows hold the elements and their spans; how many elements, the owner knows.
+// The lent memory, and how many elements it holds. Its rows keep the elements and their spans, or not: the token says so.
 #[derive(Drop)]
 struct Rows<'a, T> {
     cells: &'a mut [T],
