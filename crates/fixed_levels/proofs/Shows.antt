@@ -14,7 +14,7 @@ use Rattle.amounts.specs.Kinds.{whole, whole-kind}
 use Rattle.amounts.proofs.Lawful.{whole-laws}
 use Rattle.charges.specs.Levels.{LevelLaws, price-total, best-upto}
 use Rattle.charges.specs.Rules.{ChargeLaws}
-use Rattle.charges.proofs.Leveled.{leveled-splits, leveled-weight, best-within}
+use Rattle.charges.proofs.Leveled.{leveled-splits, leveled-weight}
 use Rattle.readings.specs.Numbers.{number-reading, all-numbers}
 use Rattle.readings.proofs.Ranges.{number-apart}
 use Rattle.charges.proofs.Lawful.{all-from-pass}
@@ -45,9 +45,6 @@ module _ (ls : List ℤ) (lawful : level-set-lawful ls ≡ true) where
 
   pub set-number : (i : ℕ) → i < length ls → number-reading (getD ls i (pos 0)) ≡ true
   set-number i lt = all-getD (λ x. number-reading x ≡ true) ls i (pos 0) lt (all-from-pass number-reading ls (set ls lawful .numbers))
-
-  pub best-offered : (u : List ℤ) → best ls u < length ls
-  best-offered u = omega (arith, best-within whole-laws (fixed-levels ls) (length ls - 1) u, set-some)
 
   price-weight : (x : ℤ) (i : ℕ) → number-reading x ≡ true → i < length ls → squared-distance x (getD ls i (pos 0)) ≤ 4000000000000
   price-weight x i h lt =
