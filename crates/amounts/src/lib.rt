@@ -1,4 +1,6 @@
 // Amounts: what fees, penalties and totals are. The interface with its laws, and the two kinds.
+#![tactic(auto)]
+
 ghost use Rattle.std.specs.Prelude.{◌≡◌, ℕ, ◌+◌, ◌^◌, ◌≤◌};
 ghost use Rattle.amounts.specs.Kind.{Kind, Laws};
 ghost use Rattle.amounts.specs.Kinds.{whole_kind, pair_kind};

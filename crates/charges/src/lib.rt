@@ -1,4 +1,6 @@
 // Charges: what a charge is, not which there are. The interface, its laws and the refusals.
+#![tactic(auto)]
+
 ghost use Rattle.std.specs.Prelude.{◌≡◌, ℕ, false, List, length, ℤ, is_ok};
 ghost use Rattle.charges.specs.Refusals.{refusal_number};
 ghost use Rattle.charges.specs.Rules.{Rules, ChargeLaws, Held};

@@ -1,5 +1,7 @@
 // The charge with fixed levels: a layer costs the sum of the squared distances of its readings to the best of a few levels.
 // Here are its table, the passes over the levels and the test before making.
+#![tactic(auto)]
+
 ghost use Rattle.std.specs.Prelude.{◌≡◌, ℕ, ◌+◌, ◌-◌, ◌*◌, ◌<◌, ◌≤◌, true, List, [], ◌∷◌, ◌++◌, length, take, drop, ℤ, pos, ◌+ℤ◌, ◌-ℤ◌, ◌*ℤ◌, ◌≤ℤ◌, Ok, Err, MatchResult, OnOk, nat_le, nat_lt, slice_index_or, unsigned_abs};
 ghost use Rattle.amounts.specs.Kinds.{whole_kind};
 ghost use Rattle.charges.specs.Levels.{LevelLaws};

@@ -1,4 +1,6 @@
 // One hole under a charge: the laws of the charge as laws of the hole's places.
+#![tactic(auto)]
+
 ghost use Rattle.std.specs.Prelude.{◌≡◌, ℕ, ◌≤◌, true, List, length, ℤ};
 ghost use Rattle.charges.specs.Rules.{Rules, ChargeLaws, all_lawful};
 ghost use Rattle.charges.specs.Levels.{Levels, LevelLaws};

@@ -1,4 +1,6 @@
 // Reads one number a line and prints the whole hole as one layer under the median charge.
+#![tactic(auto)]
+
 ghost use Rattle.std.specs.Prelude.{◌≡◌, [], ◌∷◌, ◌++◌, ℤ, IfOk, Ok, MatchResult};
 ghost use Rattle.layering.specs.Layers.{whole_hole};
 

@@ -1,4 +1,6 @@
 // Level sets: the levels that a charge with fixed levels chooses from.
+#![tactic(auto)]
+
 ghost use Rattle.std.specs.Prelude.{◌≡◌, ℕ, ◌≤◌, true, [], ◌∷◌, length, take, pos, int_lt};
 ghost use Rattle.std.specs.Result.{result_map_both};
 ghost use Rattle.readings.specs.Numbers.{all_numbers};

@@ -1,4 +1,6 @@
 // The lift: any charge in whole amounts as one in pairs, a fee or price f as (f, 0). It alters nothing else.
+#![tactic(auto)]
+
 ghost use Rattle.std.specs.Prelude.{◌≡◌, ℕ};
 ghost use Rattle.amounts.specs.Kinds.{pair_kind};
 ghost use Rattle.charges.specs.Levels.{LevelLaws};

@@ -1,5 +1,7 @@
 // The median charge: a layer costs the sum of the distances of its readings to their median.
 // Here are its table and the passes over it.
+#![tactic(auto)]
+
 ghost use Rattle.std.specs.Prelude.{◌≡◌, ℕ, ◌+◌, ◌-◌, ◌/◌, ◌<◌, ◌≤◌, true, [], ◌∷◌, ◌++◌, length, take, drop, pos, slice_index_or};
 ghost use Rattle.std.specs.List.{insert, AllByRecursion as All};
 ghost use Rattle.amounts.specs.Kinds.{whole_kind};

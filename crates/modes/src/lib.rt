@@ -1,5 +1,7 @@
 // The mode charge: a layer costs as many as its readings differ from their commonest symbol.
 // Here are its table and the pass over a segment.
+#![tactic(auto)]
+
 ghost use Rattle.std.specs.Prelude.{◌≡◌, ℕ, ◌+◌, ◌-◌, ◌<◌, ◌≤◌, true, not, [], ◌∷◌, ◌++◌, length, take, drop, pos, nat_le, slice_index, slice_index_or};
 ghost use Rattle.amounts.specs.Kinds.{whole_kind};
 ghost use Rattle.charges.specs.Rules.{ChargeLaws, all_lawful, segment};

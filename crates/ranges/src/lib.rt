@@ -1,5 +1,7 @@
 // The range charge: a layer costs, for each of its readings, how far the lowest and the highest lie apart.
 // Here are its table and what is worked out from an extent.
+#![tactic(auto)]
+
 ghost use Rattle.std.specs.Prelude.{◌≡◌, ℕ, ◌+◌, ◌-◌, ◌<◌, ◌≤◌, true, [], ◌∷◌, ◌++◌, length, take, drop, ◌≤ℤ◌};
 ghost use Rattle.amounts.specs.Kinds.{whole_kind};
 ghost use Rattle.charges.specs.Rules.{ChargeLaws, segment};

@@ -1,4 +1,6 @@
 // What the charges share: which readings are numbers or symbols, and the test before a charge is made.
+#![tactic(auto)]
+
 ghost use Rattle.std.specs.Prelude.{◌≡◌};
 ghost use Rattle.readings.specs.Numbers.{number_reading};
 ghost use Rattle.readings.specs.Symbols.{symbol_reading};

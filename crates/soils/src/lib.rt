@@ -1,5 +1,7 @@
 // The soils charge: a layer costs, for each of its readings, how many different symbols occur besides the first.
 // Here are its table and what is worked out from a set of symbols.
+#![tactic(auto)]
+
 ghost use Rattle.std.specs.Prelude.{◌≡◌, ℕ, ◌+◌, ◌-◌, ◌<◌, ◌≤◌, true, [], ◌∷◌, ◌++◌, length, take, drop, pos, count_ones};
 ghost use Rattle.amounts.specs.Kinds.{whole_kind};
 ghost use Rattle.charges.specs.Rules.{ChargeLaws, segment};

@@ -1,5 +1,7 @@
 // The span table: the joining of any segment of its elements, from two spans that overlap.
 // Here are the interface of elements, the table's rows and the steps over them.
+#![tactic(auto)]
+
 ghost use Rattle.std.specs.Prelude.{◌≡◌, ℕ, ◌+◌, ◌-◌, ◌*◌, ◌^◌, ◌<◌, ◌≤◌, true, false, List, [], ◌∷◌, ◌++◌, length, take, drop, is_ok, Some, Option, slice_index_or, slice_set};
 ghost use base.Fml.{fex, ftrue};
 ghost use denote.Sharing.{said};

@@ -1,4 +1,6 @@
 // The theory of layerings: each function's contract states a theorem, proved once for every kind of amounts.
+#![tactic(auto)]
+
 ghost use Rattle.std.specs.Prelude.{ℕ, List};
 ghost use Rattle.theory.specs.Layerings.{Layering};
 ghost use Rattle.theory.specs.Keeping.{KeepingTest, plain_keeps};
