@@ -15,53 +15,53 @@ use amounts::Amount;
 
 // Totals, breaks and the layerings given obey their recursion.
 pub fn recursion_stands<V: Amount>() -> u8
-    ensures { (fee : ℕ → ℕ → V) (penalty : V) → Recursion kind fee penalty }
+    ensures { (fee : ℕ → ℕ → V) (penalty : V) → Recursion V.kind fee penalty }
 {
     0
 }
 
 // The layering given costs exactly the total, and no layering costs less.
 pub fn optimal_stands<V: Amount>() -> u8
-    ensures { (fee : ℕ → ℕ → V) (penalty : V) → Optimal kind fee penalty }
+    ensures { (fee : ℕ → ℕ → V) (penalty : V) → Optimal V.kind fee penalty }
 {
     0
 }
 
 // Of the layerings of least cost the given one has the deepest breaks, counted from the last.
 pub fn ties_stand<V: Amount>() -> u8
-    ensures { (fee : ℕ → ℕ → V) (penalty : V) → Ties kind fee penalty }
+    ensures { (fee : ℕ → ℕ → V) (penalty : V) → Ties V.kind fee penalty }
 {
     0
 }
 
 // The plain search, which keeps every break, is sound.
 pub fn plain_stands<V: Amount>() -> u8
-    ensures { (fee : ℕ → ℕ → V) (penalty : V) (N : ℕ) → Sound kind fee penalty plain_keeps N }
+    ensures { (fee : ℕ → ℕ → V) (penalty : V) (N : ℕ) → Sound V.kind fee penalty plain_keeps N }
 {
     0
 }
 
 // What the pruned search keeps; under the splitting law it is sound.
 pub fn pruned_stands<V: Amount>() -> u8
-    ensures kept { (fee : ℕ → ℕ → V) (penalty : V) → Pruning kind fee penalty }
-    ensures sound { (fee : ℕ → ℕ → V) (penalty : V) (N : ℕ) → Splits kind fee N → Sound kind fee penalty (pruned_keeps kind fee penalty) N }
+    ensures kept { (fee : ℕ → ℕ → V) (penalty : V) → Pruning V.kind fee penalty }
+    ensures sound { (fee : ℕ → ℕ → V) (penalty : V) (N : ℕ) → Splits V.kind fee N → Sound V.kind fee penalty (pruned_keeps V.kind fee penalty) N }
 {
     0
 }
 
 // What the levels hold; under the level law they give total and back, and the level search is sound.
 pub fn levels_stand<V: Amount>() -> u8
-    ensures held { (fee : ℕ → ℕ → V) (penalty : V) (price : ℕ → ℕ → V) (k : ℕ) → Holding kind fee penalty price k }
-    ensures search { (fee : ℕ → ℕ → V) (penalty : V) (price : ℕ → ℕ → V) (k N : ℕ) → Leveled kind fee price k N → LevelSearch kind fee penalty price k N }
-    ensures sound { (fee : ℕ → ℕ → V) (penalty : V) (price : ℕ → ℕ → V) (k N : ℕ) → Leveled kind fee price k N → Sound kind fee penalty (level_keeps kind fee penalty price k) N }
+    ensures held { (fee : ℕ → ℕ → V) (penalty : V) (price : ℕ → ℕ → V) (k : ℕ) → Holding V.kind fee penalty price k }
+    ensures search { (fee : ℕ → ℕ → V) (penalty : V) (price : ℕ → ℕ → V) (k N : ℕ) → Leveled V.kind fee price k N → LevelSearch V.kind fee penalty price k N }
+    ensures sound { (fee : ℕ → ℕ → V) (penalty : V) (price : ℕ → ℕ → V) (k N : ℕ) → Leveled V.kind fee price k N → Sound V.kind fee penalty (level_keeps V.kind fee penalty price k) N }
 {
     0
 }
 
 // What is told of the first N readings does not change as readings are added.
 pub fn growth_stands<V: Amount>() -> u8
-    ensures told { (penalty : V) (f g : ℕ → ℕ → V) (N : ℕ) → FeesAlike f g N → Unchanged kind penalty f g N }
-    ensures levels { (penalty : V) (f g p q : ℕ → ℕ → V) (k N : ℕ) → FeesAlike f g N → PricesAlike p q k N → LevelsUnchanged kind penalty f g p q k N }
+    ensures told { (penalty : V) (f g : ℕ → ℕ → V) (N : ℕ) → FeesAlike f g N → Unchanged V.kind penalty f g N }
+    ensures levels { (penalty : V) (f g p q : ℕ → ℕ → V) (k N : ℕ) → FeesAlike f g N → PricesAlike p q k N → LevelsUnchanged V.kind penalty f g p q k N }
 {
     0
 }
@@ -83,8 +83,8 @@ pub fn smooth_stands<L>() -> u8
 
 // Totals stay so light that every addition of a search is exact.
 pub fn weights_stand<V: Amount>() -> u8
-    ensures totals { (fee : ℕ → ℕ → V) (penalty : V) (bound N : ℕ) → FeesWeigh kind fee bound N → TotalsWeigh kind fee penalty bound N }
-    ensures exact { (fee : ℕ → ℕ → V) (penalty : V) (price : ℕ → ℕ → V) (k bound N : ℕ) → Limits kind fee penalty price k bound N → Exact kind fee penalty price k N }
+    ensures totals { (fee : ℕ → ℕ → V) (penalty : V) (bound N : ℕ) → FeesWeigh V.kind fee bound N → TotalsWeigh V.kind fee penalty bound N }
+    ensures exact { (fee : ℕ → ℕ → V) (penalty : V) (price : ℕ → ℕ → V) (k bound N : ℕ) → Limits V.kind fee penalty price k bound N → Exact V.kind fee penalty price k N }
 {
     0
 }

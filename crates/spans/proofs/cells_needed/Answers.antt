@@ -7,5 +7,5 @@ use Rattle.spans.proofs.cells_needed.Goals as goal
 pub returns : goal.returns
 returns c =
     let n = c.args.capacity in
-    let e : n * (c.greatest-power.result + 1) ≡ cells_for n = ap (λ i. n * i) (sym (rows_are n c.greatest-power.result c.greatest-power.ensures.reached c.greatest-power.ensures.passed)) in
+    let e : n * (c.greatest_power.result + 1) ≡ cells_for n = ap (λ i. n * i) (sym (rows_are n c.greatest_power.result c.greatest_power.ensures.reached c.greatest_power.ensures.passed)) in
     record { value = λ _. e; told = λ table. ap (λ i. making_told n i table) e }

@@ -24,7 +24,7 @@ reaches k m n p q = omega (arith, p, power_le m k (omega (arith, q)))
 
 pub fill-requires : goal.fill-requires
 fill-requires g c =
-    let fits = reaches c.greatest-power-row-end.result c.loop-row.row c.args.count c.greatest-power-row-end.ensures.reached c.loop-row-test.true in
+    let fits = reaches c.greatest_power-row-end.result c.loop-row.row c.args.count c.greatest_power-row-end.ensures.reached c.loop-row-test.true in
     let long = length-set c.args.cells.now c.args.count c.args.element in
     record {
       small = c.requires.small;
@@ -40,7 +40,7 @@ loop-row-preserved g c =
     let k = c.loop-row.row in
     let w = c.args.capacity in
     let now = c.loop-row.cells in
-    let fits = reaches c.greatest-power-row-end.result k n c.greatest-power-row-end.ensures.reached c.loop-row-test.true in
+    let fits = reaches c.greatest_power-row-end.result k n c.greatest_power-row-end.ensures.reached c.loop-row-test.true in
     let long = length-set c.args.cells.now n c.args.element in
     let some : 0 < k = c.loop-row.auto.row in
     let inside : k * w + n < length now = omega (arith, c.requires.room, c.loop-row.invariant.0, long, ap length c.store.ensures.after, row_inside w k n c.requires.small c.requires.free fits) in
@@ -65,15 +65,15 @@ returns g c =
     let w = c.args.capacity in
     let old = c.args.cells.now in
     let x = c.args.element in
-    let top = c.greatest-power-row-end.result in
+    let top = c.greatest_power-row-end.result in
     let now = c.loop-row.cells in
     let room : n < length old = omega (arith, c.requires.room, row_inside w 0 n c.requires.small c.requires.free (omega arith)) in
     let end : c.loop-row.row ≡ top + 1 = omega arith in
     let filled = subst (λ k. Filled g.T.Joining.join w n old x c.requires.free room k now) end (c.loop-row.invariant.3 old x c.requires.free room c.store.ensures.after) in
-    let low = λ (j : ℕ) (lt : j < top + 1). reaches top j n c.greatest-power-row-end.ensures.reached lt in
+    let low = λ (j : ℕ) (lt : j < top + 1). reaches top j n c.greatest_power-row-end.ensures.reached lt in
     record {
       length = c.loop-row.invariant.0 ∙ (ap length c.store.ensures.after ∙ length-set old n x);
       elements = c.loop-row.invariant.1 ∙ (ap (take (n + 1)) c.store.ensures.after ∙ take_more_set old n x room);
       beyond = c.loop-row.invariant.2 ∙ (ap (drop (cells_for w)) c.store.ensures.after ∙ drop-set-lt (cells_for w) old n x (omega (arith, row_inside w 0 n c.requires.small c.requires.free (omega arith))));
-      cells = filled_cells g.T.Joining.join w n old x c.requires.free room (top + 1) now filled low c.greatest-power-row-end.ensures.passed;
+      cells = filled_cells g.T.Joining.join w n old x c.requires.free room (top + 1) now filled low c.greatest_power-row-end.ensures.passed;
     }

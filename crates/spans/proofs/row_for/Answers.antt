@@ -4,7 +4,7 @@ use Rattle.spans.proofs.row_for.Goals as goal
 
 pub returns : goal.returns
 returns c = record {
-  value = omega (arith, rows_are c.args.n c.greatest-power.result c.greatest-power.ensures.reached c.greatest-power.ensures.passed);
-  reached = c.greatest-power.ensures.reached;
-  small = c.greatest-power.ensures.small;
+  value = omega (arith, rows_are c.args.n c.greatest_power.result c.greatest_power.ensures.reached c.greatest_power.ensures.passed);
+  reached = c.greatest_power.ensures.reached;
+  small = c.greatest_power.ensures.small;
 }

@@ -11,7 +11,7 @@ returns c =
     let n = c.args.count in
     let x = c.args.reading in
     let room : n ≤ length old = omega (arith, c.requires.room) in
-    let is = c.rank-in.ensures.after ∙ ap (λ y. ranked_with (place y n) (take n old) ++ drop (n + 1) old) (to_z-of_z w64 x c.ranges.reading) in
+    let is = c.rank_in.ensures.after ∙ ap (λ y. ranked_with (place y n) (take n old) ++ drop (n + 1) old) (to_z-of_z w64 x c.ranges.reading) in
     record {
       order = ap (λ l. in_rank (take (n + 1) l)) is ∙ after_order old n room c.requires.order x c.requires.room;
       numbers = ap (λ l. all_numbers (held_in l (n + 1))) is ∙ after_numbers old n room c.requires.order x c.requires.room c.requires.numbers c.requires.number;

@@ -10,8 +10,8 @@ use Rattle.medians.specs.Walks.{picked, balance}
 use Rattle.medians.proofs.Charged.{numbers_held, fee-is}
 use Rattle.medians.proofs.Table.spread.Goals as goal
 
-pub balance-of-requires : goal.balance-of-requires
-balance-of-requires c =
+pub balance_of-requires : goal.balance_of-requires
+balance_of-requires c =
     let ps = c.args.self.now.places.now in
     let n = c.args.count in
     let e : n ≡ n - 0 = omega arith in
@@ -25,20 +25,20 @@ cast_fits z d e fit =
     subst (λ y. T (non_neg y) × Fits w64 (nat_abs y)) (sym f) (tt, search rules)
 
 -- what the pass answers
-told : (c : goal.After-balance-of) → c.balance-of.result ≡ pos (median_fee (segment (held_in c.args.self.now.places.now c.args.count) c.args.s c.args.t)).number
+told : (c : goal.After-balance_of) → c.balance_of.result ≡ pos (median_fee (segment (held_in c.args.self.now.places.now c.args.count) c.args.s c.args.t)).number
 told c =
     let ps = c.args.self.now.places.now in
     let n = c.args.count in
     let s = c.args.s in
     let t = c.args.t in
     let all : n - 0 ≡ n = omega arith in
-    c.balance-of.ensures.value
+    c.balance_of.ensures.value
     ∙ (ap (λ k. balance ((t - s) / 2) (t - s - (t - s) / 2) 0 (picked s t (take k ps))) all ∙ fee-is ps n c.requires.room c.requires.order s t c.requires.some c.requires.within)
 
-pub overflow-cast-result : goal.overflow-cast-result
-overflow-cast-result c = let fit : SFits w64 c.balance-of.result = search rules in cast_fits c.balance-of.result _ (told c) fit
+pub overflow_cast-result : goal.overflow_cast-result
+overflow_cast-result c = let fit : SFits w64 c.balance_of.result = search rules in cast_fits c.balance_of.result _ (told c) fit
 
 pub returns : goal.returns
 returns c =
-    let fit : SFits w64 c.balance-of.result = search rules in
-    record { fee = ap nat_abs (to_z-of_z w64 c.balance-of.result fit ∙ told c) }
+    let fit : SFits w64 c.balance_of.result = search rules in
+    record { fee = ap nat_abs (to_z-of_z w64 c.balance_of.result fit ∙ told c) }
