@@ -1,5 +1,5 @@
 -- Segments cut in two, lengthened by one reading, or of a longer hole.
-use Rattle.std.proofs.Common.{◌≡◌, ℕ, suc, ◌+◌, ◌-◌, ◌<◌, ◌≤◌, List, [], ◌∷◌, ◌++◌, length, get_or, take, drop, ℤ, pos, sym, refl, ap, ◌∙◌, arith, length-drop, take_add}
+use Rattle.std.proofs.Common.{◌≡◌, ℕ, suc, ◌+◌, ◌-◌, ◌<◌, ◌≤◌, List, [], ◌∷◌, ◌++◌, length, get_or, take, drop, ℤ, pos, sym, refl, ap, ◌∙◌, arith, length-drop, take-add}
 use Rattle.std.proofs.lemmas.List.{drop-drop, take_more, drop-append-le, take-append-le, get_or-drop}
 use Rattle.charges.specs.Rules.{segment}
 
@@ -8,7 +8,7 @@ segment_cut h s u t su ut =
     let e : t - s ≡ (u - s) + (t - u) = omega arith in
     let f : s + (u - s) ≡ u = omega arith in
     ap (λ n. take n (drop s h)) e
-    ∙ (take_add (u - s) (t - u) (drop s h) ∙ ap (λ l. segment h s u ++ take (t - u) l) (drop-drop (u - s) s h ∙ ap (λ n. drop n h) f))
+    ∙ (take-add (u - s) (t - u) (drop s h) ∙ ap (λ l. segment h s u ++ take (t - u) l) (drop-drop (u - s) s h ∙ ap (λ n. drop n h) f))
 
 pub segment_more : (h : List ℤ) (s t : ℕ) → s ≤ t → t < length h → segment h s (suc t) ≡ segment h s t ++ (get_or h t (pos 0) ∷ [])
 segment_more h s t st lt =

@@ -111,7 +111,7 @@ struct Token<T: Joining> {
 impl<T: Joining> Model for Token<T> {
     ghost also_owns = { λ t. fex (Built T.Joining.join t.capacity t.count t.cells) (λ _. ftrue) };
 
-    ghost also_shares = { λ t _ κ. said (fex (Built T.Joining.join t.capacity t.count t.cells) (λ _. ftrue)) (λ _. tt) κ };
+    ghost also_shares = { λ t _ κ. said (fex (Built T.Joining.join t.capacity t.count t.cells) (λ _. ftrue)) κ };
 }
 
 impl<T: Joining> Token<T> {

@@ -12,11 +12,11 @@ returns c =
     let old = c.args.table.now in
     let n = c.args.count in
     let x = c.args.reading in
-    let p = c.place-after.result in
+    let p = c.place_after.result in
     let lt = c.requires.room in
-    let reads : p.reading ≡ x = c.place-after.ensures.reading ∙ to_z-of_z w64 x c.ranges.reading in
-    let sum : p.sum ≡ sum_of (held_in old n) +ℤ p.reading = c.place-after.ensures.sum ∙ ap (λ y. sum_of (held_in old n) +ℤ y) (to_z-of_z w64 x c.ranges.reading ∙ sym reads) in
-    let squares : p.squares ≡ squares_of (held_in old n) + square p.reading = c.place-after.ensures.squares ∙ ap (λ y. squares_of (held_in old n) + square y) (to_z-of_z w64 x c.ranges.reading ∙ sym reads) in
+    let reads : p.reading ≡ x = c.place_after.ensures.reading ∙ to_z-of_z w64 x c.ranges.reading in
+    let sum : p.sum ≡ sum_of (held_in old n) +ℤ p.reading = c.place_after.ensures.sum ∙ ap (λ y. sum_of (held_in old n) +ℤ y) (to_z-of_z w64 x c.ranges.reading ∙ sym reads) in
+    let squares : p.squares ≡ squares_of (held_in old n) + square p.reading = c.place_after.ensures.squares ∙ ap (λ y. squares_of (held_in old n) + square y) (to_z-of_z w64 x c.ranges.reading ∙ sym reads) in
     record {
       sums = written_sums old n p lt c.requires.sums sum squares;
       numbers = written_numbers old n p lt c.requires.numbers (ap number_reading reads ∙ c.requires.number);

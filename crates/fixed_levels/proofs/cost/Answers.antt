@@ -18,17 +18,17 @@ ends ps s t all before some within few numbers a b =
     let n : length (readings_of ps) ≡ length ps = length-map ps (λ p. p.reading) in
     record { some = some; within = omega arith; few = omega arith; numbers = numbers; sum_all = a.0; sum-before = b.0; squares_all = a.1; squares_before = b.1 }
 
-pub overflow-sub-all : goal.overflow-sub-all
-overflow-sub-all c =
-    less_fits (ends c.args.places.now c.args.s c.args.t c.sums-before-all.result c.sums-before-before.result c.requires.some c.requires.within c.requires.few c.requires.numbers (c.sums-before-all.ensures.sum, c.sums-before-all.ensures.squares) (c.sums-before-before.ensures.sum, c.sums-before-before.ensures.squares))
+pub overflow_sub-all : goal.overflow_sub-all
+overflow_sub-all c =
+    less_fits (ends c.args.places.now c.args.s c.args.t c.sums_before-all.result c.sums_before-before.result c.requires.some c.requires.within c.requires.few c.requires.numbers (c.sums_before-all.ensures.sum, c.sums_before-all.ensures.squares) (c.sums_before-before.ensures.sum, c.sums_before-before.ensures.squares))
 
-pub overflow-sub-all-2 : goal.overflow-sub-all-2
-overflow-sub-all-2 c =
-    squares_less (ends c.args.places.now c.args.s c.args.t c.sums-before-all.result c.sums-before-before.result c.requires.some c.requires.within c.requires.few c.requires.numbers (c.sums-before-all.ensures.sum, c.sums-before-all.ensures.squares) (c.sums-before-before.ensures.sum, c.sums-before-before.ensures.squares))
+pub overflow_sub-all-2 : goal.overflow_sub-all-2
+overflow_sub-all-2 c =
+    squares_less (ends c.args.places.now c.args.s c.args.t c.sums_before-all.result c.sums_before-before.result c.requires.some c.requires.within c.requires.few c.requires.numbers (c.sums_before-all.ensures.sum, c.sums_before-all.ensures.squares) (c.sums_before-before.ensures.sum, c.sums_before-before.ensures.squares))
 
 pub spread-requires : goal.spread-requires
 spread-requires c =
-    let e = ends c.args.places.now c.args.s c.args.t c.sums-before-all.result c.sums-before-before.result c.requires.some c.requires.within c.requires.few c.requires.numbers (c.sums-before-all.ensures.sum, c.sums-before-all.ensures.squares) (c.sums-before-before.ensures.sum, c.sums-before-before.ensures.squares) in
+    let e = ends c.args.places.now c.args.s c.args.t c.sums_before-all.result c.sums_before-before.result c.requires.some c.requires.within c.requires.few c.requires.numbers (c.sums_before-all.ensures.sum, c.sums_before-all.ensures.squares) (c.sums_before-before.ensures.sum, c.sums_before-before.ensures.squares) in
     record {
       few = omega (arith, c.requires.within, c.requires.few);
       sum = less_size e;
@@ -39,7 +39,7 @@ spread-requires c =
 
 pub returns : goal.returns
 returns c =
-    let e = ends c.args.places.now c.args.s c.args.t c.sums-before-all.result c.sums-before-before.result c.requires.some c.requires.within c.requires.few c.requires.numbers (c.sums-before-all.ensures.sum, c.sums-before-all.ensures.squares) (c.sums-before-before.ensures.sum, c.sums-before-before.ensures.squares) in
+    let e = ends c.args.places.now c.args.s c.args.t c.sums_before-all.result c.sums_before-before.result c.requires.some c.requires.within c.requires.few c.requires.numbers (c.sums_before-all.ensures.sum, c.sums_before-all.ensures.squares) (c.sums_before-before.ensures.sum, c.sums_before-before.ensures.squares) in
     record {
       value =
           cost-told e (back c.args.level) c.spread.result c.spread.ensures.value

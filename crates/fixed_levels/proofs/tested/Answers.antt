@@ -13,21 +13,21 @@ returns-in-Err c = record {
   room = tt;
 }
 
-pub returns-then-not-has-room : goal.returns-then-not-has-room
-returns-then-not-has-room c =
+pub returns-then-not-has_room : goal.returns-then-not-has_room
+returns-then-not-has_room c =
     let set = c.in-Ok.set in
     record {
       value =
-          told_short c.args.levels.now c.args.capacity c.args.table c.if-capacity-eq0.false c.if-capacity-gt1024.false (take set.len set.levels) c.in-Ok.ensures.value c.if-not-has-room.ensures.value;
+          told_short c.args.levels.now c.args.capacity c.args.table c.if-capacity-eq0.false c.if-capacity-gt1024.false (take set.len set.levels) c.in-Ok.ensures.value c.if-not-has_room.ensures.value;
       room = tt;
     }
 
-pub returns-else-not-has-room : goal.returns-else-not-has-room
-returns-else-not-has-room c =
+pub returns-else-not-has_room : goal.returns-else-not-has_room
+returns-else-not-has_room c =
     let ls = c.args.levels.now in
     let set = c.in-Ok.set in
     let l = take set.len set.levels in
-    let room = c.if-not-has-room.ensures.value in
+    let room = c.if-not-has_room.ensures.value in
     record {
       value = (
         told_made ls c.args.capacity c.args.table c.if-capacity-eq0.false c.if-capacity-gt1024.false l c.in-Ok.ensures.value room,

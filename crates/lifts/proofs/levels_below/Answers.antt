@@ -5,7 +5,7 @@ use Rattle.lifts.proofs.levels_below.Goals as goal
 
 pub returns : goal.returns
 returns g c = record {
-  value = c.count-levels.ensures.value;
-  laws = levels_lift _ _ _ c.count-levels.ensures.laws;
-  steady = λ later a. ap lifted_levels (c.count-levels.ensures.steady later a);
+  value = c.count_levels.ensures.value;
+  laws = levels_lift _ _ _ c.count_levels.ensures.laws;
+  steady = λ later a. ap lifted_levels (c.count_levels.ensures.steady later a);
 }

@@ -4,8 +4,8 @@ use Rattle.std.proofs.lemmas.Int.{to_z-of_z}
 use Rattle.modes.proofs.Counting.{symbol_is}
 use Rattle.modes.proofs.symbol_of.Goals as goal
 
-pub overflow-cast-result : goal.overflow-cast-result
-overflow-cast-result c =
+pub overflow_cast-result : goal.overflow_cast-result
+overflow_cast-result c =
     let x = c.args.reading in
     let s = symbol_is x c.requires in
     let e : to_z w64 (of_z w64 x) ≡ pos (nat_abs x) = to_z-of_z w64 x c.ranges.reading ∙ s.0 in

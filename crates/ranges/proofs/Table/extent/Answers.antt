@@ -7,7 +7,7 @@ use Rattle.ranges.proofs.Table.extent.Goals as goal
 pub returns-in-Ok : goal.returns-in-Ok
 returns-in-Ok c =
     let cells = c.args.self.now.cells.now in
-    let is = unok _ _ _ c.in-Ok.is ((c.joined_cells_lem.ensures.value ∙ told c.args.capacity c.args.count cells c.requires.small c.requires.room c.requires.few c.requires.points c.args.s c.args.t c.requires.some c.requires.within c.requires.built)) in
+    let is = unok _ _ _ c.in-Ok.is ((c.joined_cells.ensures.value ∙ told c.args.capacity c.args.count cells c.requires.small c.requires.room c.requires.few c.requires.points c.args.s c.args.t c.requires.some c.requires.within c.requires.built)) in
     let e = ends c.args.capacity c.args.count cells c.requires.small c.requires.room c.requires.few c.requires.points c.args.s c.args.t c.requires.some c.requires.within in
     record {
       low = ap (λ x. x.low) is;
@@ -19,4 +19,4 @@ returns-in-Ok c =
 pub returns-in-Err : goal.returns-in-Err
 returns-in-Err c =
     let cells = c.args.self.now.cells.now in
-    absurd (ok_not_err _ _ _ (c.joined_cells_lem.ensures.value ∙ told c.args.capacity c.args.count cells c.requires.small c.requires.room c.requires.few c.requires.points c.args.s c.args.t c.requires.some c.requires.within c.requires.built) c.in-Err.is)
+    absurd (ok_not_err _ _ _ (c.joined_cells.ensures.value ∙ told c.args.capacity c.args.count cells c.requires.small c.requires.room c.requires.few c.requires.points c.args.s c.args.t c.requires.some c.requires.within c.requires.built) c.in-Err.is)

@@ -35,15 +35,16 @@ use Rattle.spans.specs.Rows.{Built}
 use Rattle.spans.specs.declared.Rows.{Rows}
 use Rattle.spans.specs.contracts.Rows as rows
 use Rattle.spans.specs.declared.Joining.{Ghosts}
+use Rattle.std.specs.declared.clone.Clone as clone
 use Rattle.spans.specs.contracts.Token as V
 use Rattle.spans.specs.contracts.Token.new as F
 use Rattle.spans.specs.contracts.Token.new.Key.{name as #self}
 use Rattle.spans.proofs.Token.new.Statement as stated
 use Rattle.spans.proofs.Token.new.Code as code
 
-module _ (Y : RattleType) (g : Ghosts Y.Denot) (d : Dict) where
+module _ (Y : RattleType) (g : Ghosts Y.Denot) (d : Dict) (cg : clone.Ghosts Y.Denot) (cd : Dict) where
   abbrev args : Args
-  args = bounded (a_type ∷ []) (Y, tt) (dcons d dnil)
+  args = bounded (a_type ∷ []) (Y, tt) (dcons d (dcons cd dnil))
 
   abbrev fn' : Fn
   fn' = inst_fn args code.function
@@ -52,7 +53,7 @@ module _ (Y : RattleType) (g : Ghosts Y.Denot) (d : Dict) where
   R = copied 0 Y
 
   abbrev ended : Ended
-  ended = F.ended Y g d
+  ended = F.ended Y g d cg cd
 
   abbrev stayed : Stays ended.signature.params ended.kept
   stayed = (stay_dropped (RefOf (0 ∷ []) tt (plain (λ κs. rows.the_row (named_lft 3 1 tt κs) R)) (λ _. tt)) yes, tt)
@@ -61,7 +62,7 @@ module _ (Y : RattleType) (g : Ghosts Y.Denot) (d : Dict) where
     open 𝓛 use {H}
 
     abbrev held : Clauses 𝓤 ended
-    held = F.clauses Y g d 𝓛 mem run
+    held = F.clauses Y g d cg cd 𝓛 mem run
 
     module _ (C : Calls 𝓤 H) (Λ : Loops 𝓤 H) (z : (walk_of 𝓛 ended stayed held).Ghost) where
       abbrev At : List Val → (walk_of 𝓛 ended stayed held).Ghost
@@ -123,8 +124,8 @@ module _ (Y : RattleType) (g : Ghosts Y.Denot) (d : Dict) where
 
 pub new_spec : {M : Type 1} → stated.statement M
 unfolding tables_of
-new_spec 𝓤 𝓛 𝓜 𝓡 wired Y L cp g d met =
+new_spec 𝓤 𝓛 𝓜 𝓡 wired Y L cp g d cg cd met cmet =
     let A = 𝓛.A in
     let 𝓣 : Tables 𝓤 𝓛.H = tables_of 𝓤 𝓛.H 𝓜 (tables 𝓤 𝓛.H 𝓜 𝓡 𝓡.env) in
-    entered 𝓤 𝓛.H (triple_of 𝓛 (ended Y g d).signature (closing 𝓛 (ended Y g d) (F.clauses Y g d 𝓛 𝓜.mem 𝓡.returns))) 𝓣.C 𝓣.Λ (#self (args Y g d)) (fn' Y g d) (code.unfolded 𝓤 𝓛.H 𝓜 𝓡 wired (Y, tt) d)
-    (meets Y g d 𝓛 𝓜.mem 𝓡.returns 𝓣)
+    entered 𝓤 𝓛.H (triple_of 𝓛 (ended Y g d cg cd).signature (closing 𝓛 (ended Y g d cg cd) (F.clauses Y g d cg cd 𝓛 𝓜.mem 𝓡.returns))) 𝓣.C 𝓣.Λ (#self (args Y g d cg cd)) (fn' Y g d cg cd) (code.unfolded 𝓤 𝓛.H 𝓜 𝓡 wired (Y, tt) d cd)
+    (meets Y g d cg cd 𝓛 𝓜.mem 𝓡.returns 𝓣)

@@ -36,15 +36,16 @@ use denote.Struct.Owning.{shape}
 use denote.Struct.Lending.{lent_out}
 use Rattle.std.specs.contracts.marker.PhantomData as mark
 use Rattle.spans.specs.declared.Joining.{Ghosts}
+use Rattle.std.specs.declared.clone.Clone as clone
 use Rattle.spans.specs.contracts.Token as V
 use Rattle.spans.specs.contracts.Token.recall as F
 use Rattle.spans.specs.contracts.Token.recall.Key.{name as #self}
 use Rattle.spans.proofs.Token.recall.Statement as stated
 use Rattle.spans.proofs.Token.recall.Code as code
 
-module _ (Y : RattleType) (g : Ghosts Y.Denot) (d : Dict) where
+module _ (Y : RattleType) (g : Ghosts Y.Denot) (d : Dict) (cg : clone.Ghosts Y.Denot) (cd : Dict) where
   abbrev args : Args
-  args = bounded (a_type ∷ []) (Y, tt) (dcons d dnil)
+  args = bounded (a_type ∷ []) (Y, tt) (dcons d (dcons cd dnil))
 
   abbrev fn' : Fn
   fn' = inst_fn args code.function
@@ -53,7 +54,7 @@ module _ (Y : RattleType) (g : Ghosts Y.Denot) (d : Dict) where
   R = copied 0 Y
 
   abbrev ended : Ended
-  ended = F.ended Y g d
+  ended = F.ended Y g d cg cd
 
   abbrev stayed : Stays ended.signature.params ended.kept
   stayed = (stay_dropped (RefOf (0 ∷ []) tt (plain (λ _. V.the_row R g)) (λ _. tt)) yes, tt)
@@ -62,7 +63,7 @@ module _ (Y : RattleType) (g : Ghosts Y.Denot) (d : Dict) where
     open 𝓛 use {H}
 
     abbrev held : Clauses 𝓤 ended
-    held = F.clauses Y g d 𝓛 mem run
+    held = F.clauses Y g d cg cd 𝓛 mem run
 
     module _ (C : Calls 𝓤 H) (Λ : Loops 𝓤 H) (z : (walk_of 𝓛 ended stayed held).Ghost) where
       abbrev At : List Val → (walk_of 𝓛 ended stayed held).Ghost
@@ -111,10 +112,10 @@ module _ (Y : RattleType) (g : Ghosts Y.Denot) (d : Dict) where
         fact_use 𝓤 (Are Rs (Ises Rs) a vss) (via 𝓤 (sem 𝓛 (owns Rs a vss)) (via 𝓤 (on_entry 𝓛 ended.signature z.0.0 z.0.1 a vss) (fst∗ 𝓤 (on_entry 𝓛 ended.signature z.0.0 z.0.1 a vss) ((held z.0.0 a).requires z.1)) (snd∗ 𝓤 (alive 𝓛 ended.signature z.0.0 z.0.1) (sem 𝓛 (owns Rs a vss)))) (owns_show 𝓛 Rs (Ises Rs) (showss 𝓛 Rs) a vss)) (λ are.
         entry 𝓣.C 𝓣.Λ z vss.0 are.0))
 
-pub recall-spec : {M : Type 1} → stated.statement M
+pub recall_spec : {M : Type 1} → stated.statement M
 unfolding tables_of
-recall-spec 𝓤 𝓛 𝓜 𝓡 wired Y L cp g d met =
+recall_spec 𝓤 𝓛 𝓜 𝓡 wired Y L cp g d cg cd met cmet =
     let A = 𝓛.A in
     let 𝓣 : Tables 𝓤 𝓛.H = tables_of 𝓤 𝓛.H 𝓜 (tables 𝓤 𝓛.H 𝓜 𝓡 𝓡.env) in
-    entered 𝓤 𝓛.H (triple_of 𝓛 (ended Y g d).signature (closing 𝓛 (ended Y g d) (F.clauses Y g d 𝓛 𝓜.mem 𝓡.returns))) 𝓣.C 𝓣.Λ (#self (args Y g d)) (fn' Y g d) (code.unfolded 𝓤 𝓛.H 𝓜 𝓡 wired (Y, tt) d)
-    (meets Y g d 𝓛 𝓜.mem 𝓡.returns 𝓣)
+    entered 𝓤 𝓛.H (triple_of 𝓛 (ended Y g d cg cd).signature (closing 𝓛 (ended Y g d cg cd) (F.clauses Y g d cg cd 𝓛 𝓜.mem 𝓡.returns))) 𝓣.C 𝓣.Λ (#self (args Y g d cg cd)) (fn' Y g d cg cd) (code.unfolded 𝓤 𝓛.H 𝓜 𝓡 wired (Y, tt) d cd)
+    (meets Y g d cg cd 𝓛 𝓜.mem 𝓡.returns 𝓣)
