@@ -12,8 +12,8 @@ returns-in-Ok c =
     record {
       low = ap (λ x. x.low) is;
       high = ap (λ x. x.high) is;
-      low-number = ap (λ x. number_reading x.low) is ∙ e.0;
-      high-number = ap (λ x. number_reading x.high) is ∙ e.1;
+      low_number = ap (λ x. number_reading x.low) is ∙ e.0;
+      high_number = ap (λ x. number_reading x.high) is ∙ e.1;
     }
 
 pub returns-in-Err : goal.returns-in-Err

@@ -16,5 +16,5 @@ returns c =
       fee = λ low high.
           ap₂ (λ n d. n * d)
           (sym (length-segment h c.args.s c.args.t (omega (arith, c.requires.within, long))))
-          (c.abs-diff.ensures ∙ ap₂ (λ x y. nat_abs (y -ℤ x)) (a ∙ low) (b ∙ high));
+          (c.abs_diff.ensures ∙ ap₂ (λ x y. nat_abs (y -ℤ x)) (a ∙ low) (b ∙ high));
     }
