@@ -1,7 +1,6 @@
 // Worked values of the charges; here those of the median, the mode and the lift.
 #![tactic(auto)]
 
-
 mod fixed;
 mod ranges_and_soils;
 

@@ -2,7 +2,7 @@
 --   level charge: a charge that chooses between a few levels, numbered from 0.
 --   price: what one reading costs at one level, an amount.
 --   best level: of a list, the lowest-numbered level of least price sum.
-use Rattle.std.specs.Prelude.{◌≡◌, ℕ, zero, suc, ◌-◌, ◌<◌, ◌≤◌, Bool, true, false, cond, ◌&&◌, List, [], ◌∷◌, length, ℤ, pos, Ok, Err, Result, nat_lt, slice_index_or}
+use Rattle.std.specs.Prelude.{◌≡◌, ℕ, zero, suc, ◌-◌, ◌<◌, ◌≤◌, true, cond, ◌&&◌, List, [], ◌∷◌, length, ℤ, pos, Ok, Err, Result, nat_lt, slice_index_or}
 use Rattle.amounts.specs.Kind.{Kind}
 use Rattle.charges.specs.Rules.{Rules, Layable}
 use Rattle.charges.specs.declared.Refusal.{Refusal}

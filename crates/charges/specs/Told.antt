@@ -1,5 +1,5 @@
 -- What each call of a charge answers, and what it holds afterwards; the tests run from the top down.
-use Rattle.std.specs.Prelude.{ℕ, Bool, cond, not, ◌&&◌, List, [], ◌∷◌, ◌++◌, length, ℤ, is_ok, Ok, Err, Result, nat_le, nat_lt}
+use Rattle.std.specs.Prelude.{ℕ, Bool, cond, ◌&&◌, List, [], ◌∷◌, ◌++◌, length, ℤ, is_ok, Ok, Err, Result, nat_le, nat_lt}
 use Rattle.charges.specs.Rules.{Rules, segment}
 use Rattle.charges.specs.declared.Refusal.{Refusal}
 use Rattle.charges.specs.declared.Refusal.TheVariants.{Full, Unlawful, Outside}

@@ -1,9 +1,8 @@
 -- What the table holds, and its segments.
-use Rattle.std.proofs.Common.{◌≡◌, ℕ, zero, ◌+◌, ◌-◌, ◌*◌, ◌<◌, ◌≤◌, true, List, [], ◌∷◌, ◌++◌, length, get_or, take, drop, set, ℤ, pos, ◌+ℤ◌, ◌-ℤ◌, nat_abs, sym, refl, ap, ◌∙◌, subst, arith, length-take}
+use Rattle.std.proofs.Common.{◌≡◌, ℕ, ◌+◌, ◌-◌, ◌*◌, ◌<◌, ◌≤◌, true, List, [], ◌∷◌, ◌++◌, length, get_or, take, drop, set, ℤ, pos, ◌+ℤ◌, nat_abs, sym, ap, ◌∙◌, subst, arith}
 use Rattle.std.specs.List.{AllByRecursion as All}
 use Rattle.std.proofs.ByRecursion.{All-take, All-drop}
 use Rattle.std.proofs.lemmas.List.{length-map, length-take-le, get_or-map, get_or-take, map_push, take_more_set, take-take, drop-take, take-append-drop}
-use Rattle.std.proofs.lemmas.Int.{ints}
 use Rattle.charges.specs.Rules.{all_lawful, segment}
 use Rattle.charges.proofs.Lawful.{all_from_pass, pass_from_all, pass_push}
 use Rattle.readings.specs.Numbers.{number_reading, all_numbers}

@@ -1,5 +1,5 @@
 -- The charge with fixed levels shows the laws.
-use Rattle.std.proofs.Common.{◌≡◌, ℕ, zero, suc, ◌+◌, ◌-◌, ◌*◌, ◌<◌, ◌≤◌, Bool, true, false, cond, ◌&&◌, ltb, leb, List, [], ◌∷◌, length, get_or, ℤ, pos, ◌-ℤ◌, nat_abs, sym, refl, ap, ◌∙◌, arith}
+use Rattle.std.proofs.Common.{◌≡◌, ℕ, suc, ◌+◌, ◌-◌, ◌<◌, ◌≤◌, true, false, cond, ◌&&◌, ltb, leb, List, [], ◌∷◌, length, get_or, ℤ, pos, ◌-ℤ◌, nat_abs, sym, refl, ap, ◌∙◌, arith}
 use Rattle.std.proofs.lemmas.Nat.{mul-le}
 use Rattle.std.proofs.ByRecursion.{All-get_or}
 use Rattle.std.proofs.lemmas.Bool.{and_parts, leb-true, ltb-true, ltb-false, le-leb, lt-leb, cond-true, cond-false}
@@ -12,7 +12,7 @@ use Rattle.readings.specs.Numbers.{number_reading, all_numbers}
 use Rattle.readings.proofs.Ranges.{number_apart}
 use Rattle.charges.proofs.Lawful.{all_from_pass}
 use Rattle.level_sets.specs.LevelSets.{rising, level_set_lawful}
-use Rattle.fixed_levels.specs.Fixed.{squared_distance_lem, best, fixed_levels, fixed_level, fixed_rules}
+use Rattle.fixed_levels.specs.Fixed.{squared_distance_lem, fixed_levels, fixed_level, fixed_rules}
 use Rattle.fixed_levels.specs.Sums.{squares_about}
 
 -- what the parts of the test say

@@ -1,5 +1,5 @@
 -- Segments cut in two, lengthened by one reading, or of a longer hole.
-use Rattle.std.proofs.Common.{◌≡◌, ℕ, suc, ◌+◌, ◌-◌, ◌<◌, ◌≤◌, List, [], ◌∷◌, ◌++◌, length, get_or, take, drop, ℤ, pos, sym, refl, ap, ◌∙◌, arith, length-drop, take-add}
+use Rattle.std.proofs.Common.{◌≡◌, ℕ, suc, ◌+◌, ◌-◌, ◌<◌, ◌≤◌, List, [], ◌∷◌, ◌++◌, length, get_or, take, drop, ℤ, pos, ap, ◌∙◌, arith, length-drop, take-add}
 use Rattle.std.proofs.lemmas.List.{drop-drop, take_more, drop-append-le, take-append-le, get_or-drop}
 use Rattle.charges.specs.Rules.{segment}
 

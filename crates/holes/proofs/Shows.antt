@@ -1,6 +1,5 @@
 -- The laws of a charge hold of the places of a hole.
-use Rattle.std.proofs.Common.{◌≡◌, ℕ, zero, suc, ◌+◌, ◌-◌, ◌*◌, ◌<◌, ◌≤◌, Bool, true, false, cond, leb, ◌⊎◌, List, [], ◌∷◌, ◌++◌, length, get_or, ℤ, pos, sym, refl, ap, ◌∙◌, subst, ⊎_elim, arith}
-use Rattle.std.specs.List.{AllByRecursion as All}
+use Rattle.std.proofs.Common.{◌≡◌, ℕ, zero, suc, ◌-◌, ◌*◌, ◌<◌, ◌≤◌, true, leb, List, [], ◌∷◌, ◌++◌, length, get_or, ℤ, pos, sym, ap, ◌∙◌, subst, ⊎_elim, arith}
 use Rattle.std.proofs.ByRecursion.{All-get_or}
 use Rattle.std.proofs.lemmas.List.{get_or_append_left}
 use Rattle.std.proofs.lemmas.Bool.{cases_lt, cond-true, le-leb, lt-leb, cond-false}
@@ -10,7 +9,7 @@ use Rattle.charges.specs.Levels.{Levels, LevelLaws, price_total, best_level}
 use Rattle.charges.proofs.Lawful.{all_from_pass}
 use Rattle.charges.proofs.Leveled.{total-append, best-within, best-least}
 use Rattle.readings.proofs.Segments.{length-segment, segment_passes}
-use Rattle.theory.specs.Levels.{price_sum, Leveled}
+use Rattle.theory.specs.Levels.{price_sum}
 use Rattle.holes.specs.Holes.{fee_of, price_of}
 use Rattle.holes.specs.Laws.{HoleLaws, HoleLevelLaws, Grows}
 use Rattle.holes.proofs.Cuts.{segment_cut, segment_more, segment-before, segment_empty}

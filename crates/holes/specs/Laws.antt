@@ -1,7 +1,7 @@
 -- The laws of a charge, as laws of the places of a hole of lawful readings.
-use Rattle.std.specs.Prelude.{◌≡◌, ℕ, ◌≤◌, true, List, ◌++◌, length, ℤ}
+use Rattle.std.specs.Prelude.{List, ◌++◌, length, ℤ}
 use Rattle.amounts.specs.Kind.{Kind}
-use Rattle.charges.specs.Rules.{Rules, all_lawful}
+use Rattle.charges.specs.Rules.{Rules}
 use Rattle.charges.specs.Levels.{Levels}
 use Rattle.theory.specs.Pruned.{Splits}
 use Rattle.theory.specs.Levels.{Leveled}

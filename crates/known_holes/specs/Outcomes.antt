@@ -5,7 +5,7 @@ use Rattle.amounts.specs.Kind.{Kind}
 use Rattle.charges.specs.Rules.{Rules}
 use Rattle.charges.specs.Levels.{Levels}
 use Rattle.theory.specs.Least.{argmin}
-use Rattle.theory.specs.Totals.{below, total, through}
+use Rattle.theory.specs.Totals.{total, through}
 use Rattle.theory.specs.Keeping.{KeepingTest, kept_breaks, plain_keeps}
 use Rattle.theory.specs.Pruned.{pruned_keeps}
 use Rattle.theory.specs.Levels.{held, worth, winner, level_keeps}

@@ -12,7 +12,7 @@ use Rattle.modes.specs.Modes.{mode, mode_rules, mode_levels}
 use Rattle.fixed_levels.specs.Fixed.{fixed_level, fixed_rules, fixed_levels}
 use Rattle.soils.specs.Soils.{soils_level, soils_rules}
 use Rattle.lifts.specs.Lifting.{lifted_penalty, lifted_rules, lifted_levels}
-use Rattle.known_holes.specs.Outcomes.{SearchKind, plain, pruned, by_level, Outcome, outcome}
+use Rattle.known_holes.specs.Outcomes.{SearchKind, pruned, by_level, Outcome, outcome}
 
 -- the letters of the charges, Q with its level set
 pub data ChargeKind : Type 0 where

@@ -1,15 +1,15 @@
 -- What a charge tells of all the readings that it holds.
-use Rattle.std.proofs.Common.{◌≡◌, ℕ, ◌<◌, Bool, true, false, cond, ◌&&◌, eqb, ltb, leb, List, length, ℤ, Ok, Err, Result, sym, ap, ◌∙◌, ⊎_elim, arith}
-use Rattle.std.proofs.lemmas.Bool.{cases_lt, cond-false, ne_eqb, ltb-true, and_parts}
+use Rattle.std.proofs.Common.{◌≡◌, ℕ, ◌<◌, List, length, ℤ, Ok, Err, Result, sym, ap, ◌∙◌, ⊎_elim, arith}
+use Rattle.std.proofs.lemmas.Bool.{cases_lt, cond-false, ne_eqb}
 use Rattle.amounts.specs.declared.Whole.{Whole}
-use Rattle.charges.specs.Rules.{Rules, segment}
-use Rattle.charges.specs.Told.{inside, segment_told}
+use Rattle.charges.specs.Rules.{Rules}
+use Rattle.charges.specs.Told.{segment_told}
 use Rattle.charges.specs.declared.Refusal.{Refusal}
 use Rattle.charges.specs.declared.Refusal.TheVariants.{Outside}
 use Rattle.charges.proofs.Telling.{told-segment, told_outside}
 use Rattle.readings.proofs.Segments.{segment_all}
 use Rattle.layering.specs.declared.layer.Layer.{Layer}
-use Rattle.layering.specs.Layers.{layer_of_lem, whole_hole}
+use Rattle.layering.specs.Layers.{whole_hole}
 
 module _ {V : Type 0} (rule : List ℤ → V) (h : List ℤ) (v : V) (told : Ok v ≡ segment_told rule h 0 (length h)) where
   pub told-some : 0 < length h

@@ -11,6 +11,7 @@ use layer::Layer;
 use medians::median::Median;
 use medians::place::Place;
 use std::io;
+use std::process::ExitCode;
 
 mod fault;
 mod layer;
@@ -89,12 +90,12 @@ fn run(rt: &HostRuntime) -> anyhow::Result<()> {
 }
 
 // A failure is told in one line on standard error, and ends the program with status 1.
-fn main(rt: HostRuntime) -> anyhow::Result<()> {
+fn main(rt: HostRuntime) -> anyhow::Result<ExitCode> {
     match run(&rt) {
-        Ok(()) => Ok(()),
+        Ok(()) => Ok(ExitCode::SUCCESS),
         Err(failure) => {
             eprintln!(rt; "{failure}")?;
-            Err(failure)
+            Ok(ExitCode::FAILURE)
         }
     }
 }

@@ -1,6 +1,5 @@
 -- The lift: a charge in whole amounts as one in pairs.
 --   lifted: of a whole amount f, the pair (f, 0). A penalty of b is then (b, 1), so that of equal costs fewer layers come first in the order.
-use Rattle.std.specs.Prelude.{List, ℤ}
 use Rattle.amounts.specs.Kinds.{pair}
 use Rattle.amounts.specs.declared.Whole.{Whole}
 use Rattle.amounts.specs.declared.Pair.{Pair}

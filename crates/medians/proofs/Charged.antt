@@ -1,20 +1,20 @@
 -- What a median charge holds and tells, from what its table holds.
-use Rattle.std.proofs.Common.{◌≡◌, ℕ, suc, ◌+◌, ◌-◌, ◌*◌, ◌/◌, ◌<◌, ◌≤◌, true, List, [], ◌∷◌, ◌++◌, length, get_or, take, drop, ℤ, pos, sym, refl, ap, ◌∙◌, subst, add-one, arith, length-drop, length-take}
-use Rattle.std.specs.List.{insert, AllByRecursion as All}
+use Rattle.std.proofs.Common.{◌≡◌, ℕ, suc, ◌+◌, ◌-◌, ◌/◌, ◌<◌, ◌≤◌, true, List, [], ◌∷◌, ◌++◌, length, get_or, take, drop, ℤ, pos, sym, ap, ◌∙◌, subst, arith, length-drop, length-take}
+use Rattle.std.specs.List.{AllByRecursion as All}
 use Rattle.std.proofs.lemmas.List.Edits.{length-insert}
-use Rattle.std.proofs.lemmas.List.{length-append, take_at, drop_at, drop-drop, drop-append-le, drop_all, append_assoc, take-append-le, take-append-drop, drop-take}
+use Rattle.std.proofs.lemmas.List.{length-append, take_at, drop_at, drop-drop}
 use Rattle.std.proofs.lemmas.List.Sums.{prefix_len-le-length}
-use Rattle.charges.specs.Rules.{all_lawful, segment, Held}
+use Rattle.charges.specs.Rules.{segment}
 use Rattle.charges.proofs.Lawful.{all_from_pass, pass_push}
 use Rattle.readings.specs.Numbers.{number_reading, all_numbers}
 use Rattle.readings.proofs.Segments.{length-segment}
 use Rattle.medians.specs.declared.place.Place.{Place}
-use Rattle.medians.specs.Medians.{distance, distances, median, median_rules}
+use Rattle.medians.specs.Medians.{distance, distances, median}
 use Rattle.medians.specs.Ranks.{place, rank, ranked_with, ranked, readings_of, in_rank}
 use Rattle.medians.specs.Walks.{picked, balance}
 use Rattle.medians.proofs.Rising.{Rising}
 use Rattle.medians.proofs.Middles.{Same, same_length, middle, middle_of, upper, median-middle, balance-middle}
-use Rattle.medians.proofs.Ranking.{length-ranked, length-readings, ranked-push, readings_of-ranked, ranked_from_test, test_from_ranked, same-picked, rising-picked, all_ranked}
+use Rattle.medians.proofs.Ranking.{length-readings, ranked-push, readings_of-ranked, ranked_from_test, test_from_ranked, same-picked, rising-picked, all_ranked}
 
 module _ (table : List Place) (count : ℕ) (room : count ≤ length table) (order : in_rank (take count table) ≡ true) where
   abbrev held : List ℤ

@@ -1,6 +1,6 @@
 -- The median of a list, found in the same readings in rising order, and that it is a least point of the sum of distances.
-use Rattle.std.proofs.Common.{◌≡◌, ℕ, zero, suc, ◌+◌, ◌-◌, ◌*◌, ◌/◌, ◌<◌, ◌≤◌, Bool, true, false, cond, ◌&&◌, ltb, leb, ◌⊎◌, List, [], ◌∷◌, ◌++◌, length, get_or, take, drop, ℤ, pos, ◌+ℤ◌, ◌-ℤ◌, neg_ℤ, nat_abs, ◌≤ℤ◌, ◌<ℤ◌, sum_by, count_by, filter, sym, refl, ap, ◌∙◌, subst, inl, inr, ⊎_elim, add-one, arith, length-append, length-drop, length-take}
-use lib.Signed.{le_z, lt_z}
+use Rattle.std.proofs.Common.{◌≡◌, ℕ, zero, suc, ◌+◌, ◌-◌, ◌*◌, ◌/◌, ◌<◌, ◌≤◌, true, cond, ◌&&◌, leb, ◌⊎◌, List, [], ◌∷◌, ◌++◌, length, get_or, take, drop, ℤ, pos, ◌+ℤ◌, ◌-ℤ◌, neg_ℤ, ◌≤ℤ◌, ◌<ℤ◌, sum_by, filter, sym, refl, ap, ◌∙◌, subst, inl, inr, ⊎_elim, add-one, arith, length-drop, length-take}
+use lib.Signed.{le_z}
 use Rattle.std.specs.List.{between, AllByRecursion as All}
 use Rattle.std.proofs.lemmas.List.Edits.{split_between, between_none, between_more, length-between}
 use Rattle.std.proofs.ByRecursion.{All-take, All-drop, kept_by_passes}
@@ -8,10 +8,9 @@ use Rattle.std.proofs.lemmas.List.{take-take, drop-drop}
 use Rattle.std.proofs.lemmas.Int.{ints, by_lt_z}
 use Rattle.std.proofs.lemmas.List.Sums.{sum_by-cons, sum_by-append, sum_by-take-drop, count_by-le-length}
 use Rattle.std.proofs.lemmas.Bool.{leb-true, le-leb, lt-leb, lt-ltb, le-ltb, cases_eq}
-use Rattle.std.proofs.lemmas.Bool.Decides.{nat_tests}
 use Rattle.medians.specs.Walks.{share, balance}
 use Rattle.medians.specs.Medians.{distance, distances, upto, half_upto, lowest, median}
-use Rattle.medians.proofs.Rising.{Rising, rising-below, rising-above, In, in_get_or, in_all, in_kept, kept_in, lowest_le, lowest_in, none}
+use Rattle.medians.proofs.Rising.{Rising, rising-below, rising-above, In, in_get_or, in_all, in_kept, lowest_le, lowest_in, none}
 
 -- the two lists have the same sums, so the same readings in some order
 pub record Same (u w : List ℤ) : Type 0 where

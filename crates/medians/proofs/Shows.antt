@@ -1,16 +1,16 @@
 -- The median charge shows the laws.
-use Rattle.std.proofs.Common.{◌≡◌, ℕ, ◌+◌, ◌-◌, ◌*◌, ◌<◌, ◌≤◌, true, List, [], ◌∷◌, ◌++◌, length, take, drop, ℤ, pos, sum_by, filter, sym, refl, ap, ◌∙◌, subst, arith, length-append}
+use Rattle.std.proofs.Common.{◌≡◌, ℕ, ◌+◌, ◌*◌, ◌<◌, ◌≤◌, true, List, ◌++◌, length, ℤ, filter, ap, subst, arith}
 use Rattle.std.specs.List.{AllByRecursion as All}
 use Rattle.std.proofs.ByRecursion.{All-weaker, sum_by_le}
 use Rattle.std.proofs.lemmas.List.Sums.{sum_by-append}
 use Rattle.std.proofs.lemmas.Bool.{le-leb}
 use Rattle.amounts.specs.Kinds.{whole_kind}
-use Rattle.charges.specs.Rules.{ChargeLaws, Layable, segment}
+use Rattle.charges.specs.Rules.{ChargeLaws}
 use Rattle.charges.proofs.Lawful.{all_from_pass}
 use Rattle.readings.specs.Numbers.{number_reading}
 use Rattle.readings.proofs.Ranges.{number_apart}
 use Rattle.readings.proofs.Segments.{segment_all}
-use Rattle.medians.specs.Medians.{distance, distances, half_upto, lowest, median, median_rules}
+use Rattle.medians.specs.Medians.{distance, distances, half_upto, median, median_rules}
 use Rattle.medians.specs.Ranks.{ranked}
 use Rattle.medians.specs.Walks.{picked}
 use Rattle.medians.proofs.Rising.{In, in_all, kept_in, lowest_in}

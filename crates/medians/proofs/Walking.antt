@@ -1,11 +1,11 @@
 -- The steps of the passes over the places.
-use Rattle.std.proofs.Common.{◌≡◌, ℕ, zero, suc, ◌+◌, ◌-◌, ◌*◌, ◌<◌, ◌≤◌, Bool, true, false, cond, ◌&&◌, List, [], ◌∷◌, ◌++◌, map, length, get_or, take, drop, set, ℤ, pos, ◌+ℤ◌, neg_ℤ, nat_abs, filter, sym, refl, ap, ◌∙◌, subst, append-nil, add-one, arith, length-append, length-drop, length-take, w64, SFits}
+use Rattle.std.proofs.Common.{◌≡◌, ℕ, zero, suc, ◌+◌, ◌-◌, ◌*◌, ◌<◌, ◌≤◌, Bool, true, false, cond, List, [], ◌∷◌, ◌++◌, map, length, get_or, take, drop, set, ℤ, pos, ◌+ℤ◌, nat_abs, filter, sym, refl, ap, ◌∙◌, append-nil, add-one, arith, length-take, w64, SFits}
 use lib.Signed.{le_z}
 use Rattle.std.specs.List.{insert, AllByRecursion as All}
 use Rattle.std.proofs.lemmas.List.Edits.{length-insert, get_or-insert_above, get_or-insert_at}
 use Rattle.std.proofs.lemmas.List.Elements.{filter-append, filter_more}
 use Rattle.std.proofs.ByRecursion.{All-map, all_kept_by}
-use Rattle.std.proofs.lemmas.List.{length-map, map-append, take-append-drop, get_or_append_left, get_or_push, get_or_past, get_or_at, get_or_default, length_push, take_all, take-take, take-append-le, take_more, drop_more, set_at, append_assoc, take_at, drop-append-le}
+use Rattle.std.proofs.lemmas.List.{length-map, map-append, take-append-drop, get_or_append_left, get_or_push, get_or_at, get_or_default, length_push, take_all, take_more, drop_more, set_at, append_assoc, take_at}
 use Rattle.std.proofs.lemmas.Int.{ints}
 use Rattle.std.proofs.lemmas.List.Sums.{prefix_len-drop_yes, prefix_len-drop_no, prefix_len-drop_all, length-filter, count_by-le-length}
 use Rattle.readings.specs.Numbers.{number_reading}

@@ -1,5 +1,5 @@
 -- The mode charge shows the laws.
-use Rattle.std.proofs.Common.{◌≡◌, ℕ, zero, suc, ◌+◌, ◌-◌, ◌*◌, ◌<◌, ◌≤◌, Bool, true, false, cond, not, ◌&&◌, leb, List, [], ◌∷◌, ◌++◌, length, ℤ, pos, count_by, sym, refl, ap, ◌∙◌, arith}
+use Rattle.std.proofs.Common.{◌≡◌, ℕ, zero, suc, ◌+◌, ◌≤◌, Bool, true, false, cond, not, leb, List, [], ◌∷◌, length, ℤ, pos, sym, refl, ap, ◌∙◌, arith}
 use Rattle.std.proofs.lemmas.List.Sums.{sum_by-cons}
 use Rattle.std.proofs.lemmas.Bool.Decides.{nat_tests}
 use Rattle.amounts.specs.Kinds.{whole, whole_kind}
@@ -8,7 +8,7 @@ use Rattle.amounts.specs.Lawful.{whole_laws}
 use Rattle.charges.specs.Rules.{ChargeLaws}
 use Rattle.charges.specs.Levels.{LevelLaws, price_total, best_upto, best_level}
 use Rattle.charges.proofs.Leveled.{leveled-splits, leveled-weight}
-use Rattle.modes.specs.Modes.{is, occurrences, differing, first_most, commonest, mode, mode_rules, mode_levels}
+use Rattle.modes.specs.Modes.{is, occurrences, differing, first_most, mode, mode_rules, mode_levels}
 
 apart : (b : Bool) → cond b 1 0 + cond (not b) 1 0 ≡ 1
 apart true = refl

@@ -1,7 +1,7 @@
 -- What the test before making a charge answers, and the capacity that the making then gives.
 --   capacity: how many readings a charge can hold, from 1 to 1,024.
 --   table: the memory lent to a charge for its life.
-use Rattle.std.specs.Prelude.{ℕ, Bool, cond, ◌||◌, is_ok, Ok, Err, Result, ◌==◌, nat_lt}
+use Rattle.std.specs.Prelude.{ℕ, cond, ◌||◌, is_ok, Ok, Err, Result, ◌==◌, nat_lt}
 use Rattle.charges.specs.declared.Refusal.{Refusal}
 use Rattle.charges.specs.declared.Refusal.TheVariants.{Capacity, ShortTable}
 

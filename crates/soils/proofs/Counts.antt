@@ -1,9 +1,9 @@
 -- The set of the symbols of a list, digit by digit.
-use Rattle.std.proofs.Common.{◌≡◌, ℕ, zero, suc, ◌+◌, ◌-◌, ◌*◌, ◌^◌, ◌<◌, ◌≤◌, Bool, true, false, cond, ◌||◌, eqb, List, [], ◌∷◌, ◌++◌, ℤ, nat_abs, sym, refl, ap, ◌∙◌, subst, ap₂, ⊎_elim, arith}
-use lib.Bits.{bit_or, or_block, or_zero_r}
+use Rattle.std.proofs.Common.{◌≡◌, ℕ, zero, suc, ◌+◌, ◌*◌, ◌^◌, ◌<◌, ◌≤◌, Bool, true, false, cond, ◌||◌, eqb, List, [], ◌∷◌, ◌++◌, ℤ, nat_abs, sym, refl, ap, ◌∙◌, ap₂, ⊎_elim, arith}
+use lib.Bits.{bit_or, or_block}
 use lib.Count.{ones, ones_cat}
 use Rattle.std.proofs.lemmas.Nat.{pow_pos, pow-add, pow_below}
-use Rattle.std.proofs.lemmas.Bool.{cases_eq, cases_lt, cases_Bool, eq-eqb, ne_eqb, or_cases, or_left, or_right, cond-true, cond-false}
+use Rattle.std.proofs.lemmas.Bool.{cases_eq, eq-eqb, ne_eqb}
 use Rattle.soils.specs.Soils.{occurs, different_below, set_below}
 
 abbrev digit : Bool → ℕ

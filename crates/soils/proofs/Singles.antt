@@ -1,5 +1,5 @@
 -- Sets of one symbol, and the readings of a table of them.
-use Rattle.std.proofs.Common.{◌≡◌, ℕ, zero, suc, ◌+◌, ◌-◌, ◌*◌, ◌/◌, ◌%◌, ◌^◌, ◌<◌, ◌≤◌, Bool, true, ◌&&◌, eqb, ltb, List, [], ◌∷◌, ◌++◌, map, length, take, drop, ℤ, pos, nat_abs, Some, sym, refl, ap, ◌∙◌, subst, ap₂, arith, length-take}
+use Rattle.std.proofs.Common.{◌≡◌, ℕ, zero, suc, ◌-◌, ◌*◌, ◌/◌, ◌%◌, ◌^◌, ◌<◌, ◌≤◌, true, ◌&&◌, eqb, ltb, List, [], ◌∷◌, ◌++◌, map, length, take, drop, ℤ, pos, nat_abs, Some, sym, refl, ap, ◌∙◌, ap₂, arith, length-take}
 use lib.Bits.{bit_or, or_zero_r}
 use lib.Count.{count_trailing_zeros, under}
 use lib.Signed.{le_z}

@@ -1,11 +1,11 @@
 -- What the cells of a span table hold, and after a push.
-use Rattle.std.proofs.Common.{◌≡◌, ℕ, zero, suc, ◌+◌, ◌-◌, ◌*◌, ◌/◌, ◌%◌, ◌^◌, ◌<◌, ◌≤◌, Bool, true, false, cond, ◌&&◌, eqb, leb, ◌⊎◌, List, [], ◌∷◌, ◌++◌, length, get_or, take, drop, set, Some, None, Option, sym, refl, ap, ◌∙◌, subst, ap₂, ⊎_elim, add-mul, arith}
+use Rattle.std.proofs.Common.{◌≡◌, ℕ, zero, suc, ◌+◌, ◌-◌, ◌*◌, ◌/◌, ◌%◌, ◌^◌, ◌<◌, ◌≤◌, eqb, leb, List, [], ◌∷◌, ◌++◌, length, get_or, take, drop, set, Some, sym, refl, ap, ◌∙◌, subst, ap₂, ⊎_elim, add-mul, arith}
 use Rattle.std.specs.List.{between}
-use Rattle.std.proofs.lemmas.Nat.{pow_pos, pow-add, mul-add-lt, div-add-mod', div-mul-add, mod-mul-add}
-use Rattle.std.proofs.lemmas.List.{take-take, take_at, take-set-le, take_more_set, length-set, length_push, length-take-le, get_or_push}
+use Rattle.std.proofs.lemmas.Nat.{pow_pos, pow-add, div-add-mod', div-mul-add, mod-mul-add}
+use Rattle.std.proofs.lemmas.List.{take-take, take_at, length_push, length-take-le, get_or_push}
 use Rattle.std.proofs.lemmas.List.Edits.{between_none, between_more}
 use Rattle.std.proofs.lemmas.Slice.{between_is}
-use Rattle.std.proofs.lemmas.Bool.{both_ways, and_left, ne_eqb, cases_lt, cases_eq, cases_Bool, and_from, and_parts, and_cases, cond-true, cond-false, eq-eqb, eqb-true, le-leb, leb-true, leb-false, eqb-false}
+use Rattle.std.proofs.lemmas.Bool.{both_ways, and_left, ne_eqb, cases_eq, cases_Bool, and_from, and_parts, cond-true, cond-false, eq-eqb, eqb-true, le-leb, leb-true}
 use Rattle.spans.specs.Joinings.{both, joining}
 use Rattle.spans.specs.Rows.{row_count, cell, span, Built, written, new_span, pushed_cell, joined_cells_lem}
 use Rattle.spans.proofs.Joins.{joining_split, covering}

@@ -1,9 +1,7 @@
 -- What the steps over cells answer where the table is as its owner keeps it.
-use Rattle.std.proofs.Common.{◌≡◌, ℕ, ◌<◌, ◌≤◌, true, false, cond, ◌&&◌, ◌||◌, eqb, ltb, leb, List, length, take, is_ok, Ok, Err, sym, refl, ap, ◌∙◌, arith}
+use Rattle.std.proofs.Common.{◌≡◌, ℕ, ◌<◌, ◌≤◌, true, ◌&&◌, eqb, ltb, leb, List, length, take, is_ok, Ok, ap, ◌∙◌, arith}
 use Rattle.std.specs.List.{between}
 use Rattle.std.proofs.lemmas.Bool.{cond-true, cond-false, or_from, ne_eqb, le-ltb, lt-ltb, le-leb, and_from}
-use Rattle.charges.specs.declared.Refusal.TheVariants.{Full, Outside}
-use Rattle.readings.specs.Makings.{making_told}
 use Rattle.spans.specs.Joinings.{joining, ok_of}
 use Rattle.spans.specs.Rows.{cells_for, Built, ready, push_told, joined_cells_lem, joined_cells_told}
 use Rattle.spans.proofs.Sets.{told_equal}

@@ -1,7 +1,7 @@
 -- How a span table keeps its elements.
 --   row: as many cells as the capacity; row k has the cells from k * capacity on. Row 0 holds the elements.
 --   span: elements that follow each other, as many as a power of two. Cell e of row k holds the joining of the 2^k that end at e.
-use Rattle.std.specs.Prelude.{◌≡◌, ℕ, zero, suc, ◌+◌, ◌-◌, ◌*◌, ◌/◌, ◌%◌, ◌^◌, ◌<◌, ◌≤◌, Bool, cond, ◌&&◌, List, [], ◌∷◌, ◌++◌, length, take, is_ok, Some, None, Ok, Err, Option, Result, ◌==◌, nat_le, nat_lt}
+use Rattle.std.specs.Prelude.{◌≡◌, ℕ, zero, suc, ◌+◌, ◌-◌, ◌*◌, ◌/◌, ◌%◌, ◌^◌, ◌<◌, ◌≤◌, Bool, cond, ◌&&◌, List, [], ◌∷◌, length, take, is_ok, Some, None, Ok, Err, Option, Result, ◌==◌, nat_le, nat_lt}
 use Rattle.std.specs.List.{between}
 use Rattle.charges.specs.declared.Refusal.{Refusal}
 use Rattle.charges.specs.declared.Refusal.TheVariants.{Full, Outside}

@@ -1,7 +1,7 @@
 -- What is true of totals, breaks and the layering that they give, for every kind of amounts and every fee.
 --   optimal: the layering given costs exactly the total, and none costs less.
 --   ties: another layering of equal cost has the shallower break where the two first differ, counted from the last.
-use Rattle.std.specs.Prelude.{◌≡◌, ℕ, ◌-◌, ◌<◌, ◌≤◌, true, ◌⊎◌, List, [], ◌∷◌, ◌++◌, length, slice_index_or}
+use Rattle.std.specs.Prelude.{◌≡◌, ℕ, ◌<◌, ◌≤◌, true, ◌⊎◌, List, [], ◌∷◌, ◌++◌, length, slice_index_or}
 use Rattle.amounts.specs.Kind.{Kind}
 use Rattle.theory.specs.Least.{Lowest}
 use Rattle.theory.specs.Layerings

@@ -1,9 +1,9 @@
-use Rattle.std.proofs.Common.{◌≡◌, ◌+◌, [], ◌∷◌, ◌++◌, length, take, drop, set, ◌+ℤ◌, sym, refl, ap, ◌∙◌, w64}
+use Rattle.std.proofs.Common.{◌≡◌, ◌+◌, [], ◌∷◌, ◌++◌, ◌+ℤ◌, sym, ap, ◌∙◌, w64}
 use Rattle.std.proofs.lemmas.List.{drop-set-lt, length-set}
 use Rattle.std.proofs.lemmas.Int.{to_z-of_z}
-use Rattle.readings.specs.Numbers.{number_reading, all_numbers}
+use Rattle.readings.specs.Numbers.{number_reading}
 use Rattle.fixed_levels.specs.Fixed.{square}
-use Rattle.fixed_levels.specs.Sums.{sum_of, squares_of, summed, held_in}
+use Rattle.fixed_levels.specs.Sums.{sum_of, squares_of, held_in}
 use Rattle.fixed_levels.proofs.Holding.{written_held, written_numbers, written_sums}
 use Rattle.fixed_levels.proofs.append.Goals as goal
 

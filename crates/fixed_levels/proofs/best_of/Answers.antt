@@ -1,10 +1,10 @@
-use Rattle.std.proofs.Common.{◌≡◌, ◌+◌, ◌<◌, length, get_or, pos, sym, refl, ap, ◌∙◌, arith, w64, SFits, rules}
+use Rattle.std.proofs.Common.{get_or, pos, sym, refl, ap, ◌∙◌, arith, w64, SFits, rules}
 use Rattle.std.proofs.lemmas.Int.{to_z-of_z}
 use Rattle.charges.specs.Levels.{best_upto}
 use Rattle.charges.specs.Rules.{segment}
 use Rattle.readings.specs.Numbers.{number_reading}
 use Rattle.fixed_levels.specs.Sums.{readings_of, squares_about}
-use Rattle.fixed_levels.proofs.Shows.{set-some, set_number, best_takes, best_keeps}
+use Rattle.fixed_levels.proofs.Shows.{set_number, best_takes, best_keeps}
 use Rattle.fixed_levels.proofs.best_of.Goals as goal
 use Rattle.fixed_levels.proofs.best_of.Goals.{then-cheaper, else-cheaper}
 

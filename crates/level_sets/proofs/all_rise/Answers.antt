@@ -1,4 +1,4 @@
-use Rattle.std.proofs.Common.{◌≡◌, ◌+◌, ◌-◌, Bool, true, false, get_or, drop, ℤ, pos, sym, ap, ◌∙◌, subst, arith, w64, SFits, to_z, of_z, rules}
+use Rattle.std.proofs.Common.{◌≡◌, ◌+◌, ◌-◌, Bool, true, false, get_or, drop, ℤ, pos, sym, subst, arith, w64, SFits, to_z, of_z, rules}
 use lib.Signed.{lt_z}
 use Rattle.std.proofs.lemmas.Int.{to_z-of_z}
 use Rattle.level_sets.specs.LevelSets.{rising}

@@ -1,10 +1,10 @@
-use Rattle.std.proofs.Common.{◌≡◌, ◌+◌, ◌*◌, ◌<◌, ◌≤◌, true, false, [], ◌++◌, length, get_or, take, pos, ◌+ℤ◌, nat_abs, sym, refl, ap, ◌∙◌, arith, length-take, w64, SFits, to_z, of_z, rules}
+use Rattle.std.proofs.Common.{◌≡◌, ◌<◌, true, length, get_or, take, pos, sym, refl, ap, ◌∙◌, arith, w64, SFits, rules}
 use Rattle.std.proofs.ByRecursion.{All-get_or, All-take}
 use Rattle.std.proofs.lemmas.List.{length_push}
-use Rattle.std.proofs.lemmas.Int.{ints, to_z-of_z}
+use Rattle.std.proofs.lemmas.Int.{to_z-of_z}
 use Rattle.readings.specs.Numbers.{number_reading}
 use Rattle.medians.specs.Ranks.{place}
-use Rattle.medians.specs.Walks.{in_segment_lem, picked, share, balance}
+use Rattle.medians.specs.Walks.{picked, share, balance}
 use Rattle.medians.proofs.Walking.{picked_yes, picked_no, picked_all, picked_short, balance_more, balance_fits, all_picked}
 use Rattle.medians.proofs.balance_of.Goals as goal
 use Rattle.medians.proofs.balance_of.Goals.{then-in_segment, else-in_segment}

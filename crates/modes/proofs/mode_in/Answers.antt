@@ -1,4 +1,4 @@
-use Rattle.std.proofs.Common.{get_or, sym, ap, ◌∙◌, arith}
+use Rattle.std.proofs.Common.{get_or, ◌∙◌, arith}
 use Rattle.modes.specs.Modes.{occurrences}
 use Rattle.modes.proofs.Counting.{first_same}
 use Rattle.modes.proofs.Shows.{both_counts}

@@ -1,4 +1,4 @@
-use Rattle.std.proofs.Common.{◌≡◌, ◌<◌, T, ℤ, pos, nat_abs, sym, ap, ◌∙◌, subst, arith, w64, Fits, SFits, to_z, of_z, rules}
+use Rattle.std.proofs.Common.{◌≡◌, ◌<◌, T, pos, nat_abs, sym, ap, ◌∙◌, subst, w64, Fits, to_z, of_z, rules}
 use lib.Signed.{non_neg}
 use Rattle.std.proofs.lemmas.Int.{to_z-of_z}
 use Rattle.modes.proofs.Counting.{symbol_is}

@@ -1,4 +1,4 @@
-use Rattle.std.proofs.Common.{◌≡◌, ◌+◌, ◌*◌, ◌<◌, sym, ap, ◌∙◌, arith, rules}
+use Rattle.std.proofs.Common.{◌≡◌, ◌+◌, ◌*◌, sym, ap}
 use Rattle.readings.specs.Makings.{making_told}
 use Rattle.spans.specs.Rows.{cells_for}
 use Rattle.spans.proofs.Powers.{rows_are}

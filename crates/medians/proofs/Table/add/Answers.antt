@@ -1,4 +1,4 @@
-use Rattle.std.proofs.Common.{◌≡◌, ◌+◌, ◌≤◌, ◌++◌, length, take, drop, sym, refl, ap, ◌∙◌, arith, w64}
+use Rattle.std.proofs.Common.{◌+◌, ◌≤◌, ◌++◌, length, take, drop, refl, ap, ◌∙◌, arith, w64}
 use Rattle.std.proofs.lemmas.Int.{to_z-of_z}
 use Rattle.readings.specs.Numbers.{all_numbers}
 use Rattle.medians.specs.Ranks.{place, ranked_with, in_rank, held_in}

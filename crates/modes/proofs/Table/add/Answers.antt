@@ -1,4 +1,4 @@
-use Rattle.std.proofs.Common.{◌+◌, [], ◌∷◌, ◌++◌, length, take, drop, set, refl, ap, ◌∙◌, w64}
+use Rattle.std.proofs.Common.{◌+◌, take, set, refl, ap, ◌∙◌, w64}
 use Rattle.std.proofs.lemmas.List.{take_more_set, drop-set-lt, length-set}
 use Rattle.std.proofs.lemmas.Int.{to_z-of_z}
 use Rattle.charges.proofs.Lawful.{pass_push}

@@ -1,7 +1,7 @@
-use Rattle.std.proofs.Common.{◌≡◌, ◌+◌, ◌<◌, true, [], ◌∷◌, ◌++◌, length, take, is_ok, sym, refl, ap, ◌∙◌, arith, w64}
+use Rattle.std.proofs.Common.{◌≡◌, ◌+◌, ◌<◌, true, [], ◌∷◌, ◌++◌, length, take, is_ok, refl, ap, ◌∙◌, arith, w64}
 use mathlib.Core.Logic.{∥∥₁_map}
 use Rattle.std.proofs.lemmas.Int.{to_z-of_z}
-use Rattle.spans.specs.Rows.{cell, pushed_cell}
+use Rattle.spans.specs.Rows.{pushed_cell}
 use Rattle.spans.proofs.Powers.{cells_enough}
 use Rattle.spans.proofs.Spans.{built_after}
 use Rattle.spans.proofs.Telling.{push_yes}

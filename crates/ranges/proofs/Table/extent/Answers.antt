@@ -1,4 +1,4 @@
-use Rattle.std.proofs.Common.{◌≡◌, true, sym, ap, ◌∙◌}
+use Rattle.std.proofs.Common.{ap, ◌∙◌}
 use Rattle.readings.specs.Numbers.{number_reading}
 use Rattle.spans.proofs.Sets.{unok, ok_not_err}
 use Rattle.ranges.proofs.Charged.{told, ends}

@@ -1,4 +1,4 @@
-use Rattle.std.proofs.Common.{◌≡◌, ◌-◌, ◌*◌, ◌-ℤ◌, nat_abs, sym, ap, ◌∙◌, ap₂, arith, w64}
+use Rattle.std.proofs.Common.{◌*◌, ◌-ℤ◌, nat_abs, sym, ◌∙◌, ap₂, arith, w64}
 use Rattle.std.proofs.lemmas.Int.{to_z-of_z}
 use Rattle.readings.proofs.Segments.{length-segment}
 use Rattle.spans.proofs.Powers.{cells_enough}

@@ -2,7 +2,6 @@ use Rattle.std.proofs.Common.{take, sym, refl, arith}
 use Rattle.readings.specs.Numbers.{number_reading}
 use Rattle.charges.proofs.Lawful.{pass_from_all}
 use Rattle.spans.proofs.Powers.{cells_enough}
-use Rattle.ranges.specs.Ranges.{range_rules}
 use Rattle.ranges.specs.Extents.{held_in}
 use Rattle.ranges.specs.ExtentsLemmas.{length_held, points_numbers}
 use Rattle.ranges.proofs.Table.len.Goals as goal

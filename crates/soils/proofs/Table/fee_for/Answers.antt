@@ -1,4 +1,4 @@
-use Rattle.std.proofs.Common.{◌≡◌, ◌-◌, ◌*◌, sym, ap, ◌∙◌, ap₂, arith}
+use Rattle.std.proofs.Common.{◌-◌, ◌*◌, sym, ap, ◌∙◌, ap₂, arith}
 use Rattle.readings.proofs.Segments.{length-segment}
 use Rattle.spans.proofs.Powers.{cells_enough}
 use Rattle.soils.specs.Sets.{held_in}

@@ -1,4 +1,4 @@
-use Rattle.std.proofs.Common.{◌≡◌, sym, ap, ◌∙◌}
+use Rattle.std.proofs.Common.{ap, ◌∙◌}
 use lib.Count.{ones}
 use Rattle.spans.proofs.Sets.{unok, ok_not_err}
 use Rattle.soils.proofs.Counts.{ones_different}

@@ -2,7 +2,6 @@ use Rattle.std.proofs.Common.{take, sym, refl, arith}
 use Rattle.readings.specs.Symbols.{symbol_reading}
 use Rattle.charges.proofs.Lawful.{pass_from_all}
 use Rattle.spans.proofs.Powers.{cells_enough}
-use Rattle.soils.specs.Soils.{soils_rules}
 use Rattle.soils.specs.Sets.{held_in}
 use Rattle.soils.proofs.Singles.{length_held, singles_symbols}
 use Rattle.soils.proofs.Table.len.Goals as goal

@@ -1,7 +1,7 @@
-use Rattle.std.proofs.Common.{◌≡◌, ℕ, ◌+◌, ◌-◌, ◌<◌, ◌≤◌, [], ◌∷◌, ◌++◌, length, take, drop, sym, refl, ap, ◌∙◌, subst, arith}
+use Rattle.std.proofs.Common.{◌≡◌, ℕ, ◌+◌, ◌-◌, ◌<◌, ◌≤◌, [], ◌∷◌, ◌++◌, length, take, drop, refl, ap, ◌∙◌, subst, arith}
 use borrow.Rule.Slice.PartMut.{post_of}
 use Rattle.spans.specs.Rows.{cells_for, cell, pushed_cell}
-use Rattle.spans.proofs.Fronts.{room_front, after-length, after_elements, after_cells, after_beyond}
+use Rattle.spans.proofs.Fronts.{room_front, after-length, after_elements, after_cells}
 use Rattle.spans.proofs.Powers.{cells_enough}
 use Rattle.spans.proofs.Spans.{built_after}
 use Rattle.spans.proofs.Rows.push.Goals as goal
