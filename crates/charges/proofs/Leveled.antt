@@ -1,6 +1,6 @@
 -- The level law gives the splitting law and the weight law, for every level charge.
 use Rattle.std.proofs.Common.{◌≡◌, ℕ, zero, suc, ◌-◌, ◌*◌, ◌<◌, ◌≤◌, true, false, List, [], ◌∷◌, ◌++◌, length, ℤ, sym, refl, ap, ◌∙◌, subst, ⊎_elim, add-mul, arith}
-use Rattle.std.specs.List.{AllByRecursion as All}
+use Rattle.std.specs.List.{AllByRecursion}
 use Rattle.std.proofs.ByRecursion.{All-append}
 use Rattle.std.proofs.lemmas.List.{length-append}
 use Rattle.std.proofs.lemmas.Bool.{cases_Bool, cond-true, cond-false, cases_eq, both_ways}
@@ -67,14 +67,14 @@ module _ {V : Type 0} {k : Kind V} (a : Laws k) where
         (λ ne. a.transitive _ _ _ s.0 (best-least n u i (omega arith)))
         (cases_eq i (suc n))
 
-    pub total-weight : (bound i : ℕ) (u : List ℤ) → All (λ x. k.weight (l.price x i) ≤ bound) u → k.weight (total i u) ≤ length u * bound
+    pub total-weight : (bound i : ℕ) (u : List ℤ) → AllByRecursion (λ x. k.weight (l.price x i) ≤ bound) u → k.weight (total i u) ≤ length u * bound
     unfolding price_total
     total-weight bound i [] h = omega (arith, a.weight_nothing)
     total-weight bound i (x ∷ xs) h =
         omega (arith, a.weight_plus (l.price x i) (total i xs), h.0, total-weight bound i xs h.1, add-mul 1 (length xs) bound)
 
   module _ (r : Rules V) (leveling : List ℤ → ℤ) (l : Levels V) (so : LevelLaws k r leveling l) where
-    prices_weigh : (i : ℕ) → i < l.offered → (u : List ℤ) → All (λ x. r.lawful x ≡ true) u → All (λ x. k.weight (l.price x i) ≤ r.bound) u
+    prices_weigh : (i : ℕ) → i < l.offered → (u : List ℤ) → AllByRecursion (λ x. r.lawful x ≡ true) u → AllByRecursion (λ x. k.weight (l.price x i) ≤ r.bound) u
     prices_weigh i lt [] h = tt
     prices_weigh i lt (x ∷ xs) h = (so.weight x i h.0 lt, prices_weigh i lt xs h.1)
 

@@ -1,7 +1,7 @@
 -- The sum of squared distances to a level, from the sums of the readings and of their squares.
 use Rattle.std.proofs.Common.{◌≡◌, ℕ, suc, ◌+◌, ◌*◌, ◌≤◌, true, List, [], ◌∷◌, ◌++◌, length, ℤ, pos, ◌+ℤ◌, ◌-ℤ◌, ◌*ℤ◌, neg_ℤ, nat_abs, ap, ◌∙◌, arith}
 use lib.IntN.{*ℤ_comm}
-use Rattle.std.specs.List.{AllByRecursion as All}
+use Rattle.std.specs.List.{AllByRecursion}
 use Rattle.std.proofs.lemmas.Nat.{mul-le}
 use Rattle.std.proofs.lemmas.Int.{ints}
 use Rattle.readings.specs.Numbers.{number_reading}
@@ -47,12 +47,12 @@ squares_append (x ∷ xs) v = omega (arith, squares_append xs v)
 pub number_square : (x : ℤ) → number_reading x ≡ true → square x ≤ 1000000000000
 number_square x h = mul-le (nat_abs x) (nat_abs x) 1000000 1000000 (number_size x h) (number_size x h)
 
-pub sum_size : (u : List ℤ) → All (λ x. number_reading x ≡ true) u → nat_abs (sum_of u) ≤ length u * 1000000
+pub sum_size : (u : List ℤ) → AllByRecursion (λ x. number_reading x ≡ true) u → nat_abs (sum_of u) ≤ length u * 1000000
 unfolding sum_of
 sum_size [] a = omega arith
 sum_size (x ∷ xs) a = let s = number_size x a.0 in let r = sum_size xs a.1 in omega (arith, ints)
 
-pub squares_size : (u : List ℤ) → All (λ x. number_reading x ≡ true) u → squares_of u ≤ length u * 1000000000000
+pub squares_size : (u : List ℤ) → AllByRecursion (λ x. number_reading x ≡ true) u → squares_of u ≤ length u * 1000000000000
 unfolding squares_of
 squares_size [] a = omega arith
 squares_size (x ∷ xs) a = omega (arith, number_square x a.0, squares_size xs a.1)

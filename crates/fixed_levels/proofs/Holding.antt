@@ -1,6 +1,6 @@
 -- What the table holds, and its segments.
 use Rattle.std.proofs.Common.{◌≡◌, ℕ, ◌+◌, ◌-◌, ◌*◌, ◌<◌, ◌≤◌, true, List, [], ◌∷◌, ◌++◌, length, get_or, take, drop, set, ℤ, pos, ◌+ℤ◌, nat_abs, sym, ap, ◌∙◌, subst, arith}
-use Rattle.std.specs.List.{AllByRecursion as All}
+use Rattle.std.specs.List.{AllByRecursion}
 use Rattle.std.proofs.ByRecursion.{All-take, All-drop}
 use Rattle.std.proofs.lemmas.List.{length-map, length-take-le, get_or-map, get_or-take, map_push, take_more_set, take-take, drop-take, take-append-drop}
 use Rattle.charges.specs.Rules.{all_lawful, segment}
@@ -53,7 +53,7 @@ module _ (h : List ℤ) (s t : ℕ) (lt : s < t) where
   pub squares_cut : squares_of (take t h) ≡ squares_of (take s h) + squares_of (segment h s t)
   squares_cut = ap squares_of (sym cut) ∙ squares_append (take s h) (segment h s t)
 
-  segment_numbers : all_numbers h ≡ true → All (λ x. number_reading x ≡ true) (segment h s t)
+  segment_numbers : all_numbers h ≡ true → AllByRecursion (λ x. number_reading x ≡ true) (segment h s t)
   segment_numbers n = All-take (λ x. number_reading x ≡ true) (t - s) (drop s h) (All-drop (λ x. number_reading x ≡ true) s h (all_from_pass number_reading h n))
 
   pub sum_bound : t ≤ length h → all_numbers h ≡ true → nat_abs (sum_of (segment h s t)) ≤ (t - s) * 1000000

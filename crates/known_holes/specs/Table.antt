@@ -1,7 +1,7 @@
 -- Known holes: some small holes and what is to be found of them, worked out by hand.
 --   row: a charge, a kind of amounts, the readings of a hole, and what is expected.
 use Rattle.std.specs.Prelude.{◌≡◌, ℕ, List, [], ◌∷◌, ℤ, pos, negsuc}
-use Rattle.std.specs.List.{AllByRecursion as All}
+use Rattle.std.specs.List.{AllByRecursion}
 use Rattle.amounts.specs.Kinds.{whole, whole_kind, pair_kind}
 use Rattle.amounts.specs.declared.Whole.{Whole}
 use Rattle.charges.specs.Rules.{Rules}
@@ -96,4 +96,4 @@ table =
 
 -- every row is as expected
 abbrev pub Known : Type 0
-Known = All Holds table
+Known = AllByRecursion Holds table

@@ -1,6 +1,6 @@
 -- What a median charge holds and tells, from what its table holds.
 use Rattle.std.proofs.Common.{◌≡◌, ℕ, suc, ◌+◌, ◌-◌, ◌/◌, ◌<◌, ◌≤◌, true, List, [], ◌∷◌, ◌++◌, length, get_or, take, drop, ℤ, pos, sym, ap, ◌∙◌, subst, arith, length-drop, length-take}
-use Rattle.std.specs.List.{AllByRecursion as All}
+use Rattle.std.specs.List.{AllByRecursion}
 use Rattle.std.proofs.lemmas.List.Edits.{length-insert}
 use Rattle.std.proofs.lemmas.List.{length-append, take_at, drop_at, drop-drop}
 use Rattle.std.proofs.lemmas.List.Sums.{prefix_len-le-length}
@@ -29,8 +29,8 @@ module _ (table : List Place) (count : ℕ) (room : count ≤ length table) (ord
   ranked-held : ranked held ≡ take count table
   ranked-held = ranked_from_test (take count table) order
 
-  pub numbers_held : all_numbers held ≡ true → All (λ p. number_reading p.reading ≡ true) (take count table)
-  numbers_held h = subst (All (λ p. number_reading p.reading ≡ true)) ranked-held (all_ranked (λ x. number_reading x ≡ true) held (all_from_pass number_reading held h))
+  pub numbers_held : all_numbers held ≡ true → AllByRecursion (λ p. number_reading p.reading ≡ true) (take count table)
+  numbers_held h = subst (AllByRecursion (λ p. number_reading p.reading ≡ true)) ranked-held (all_ranked (λ x. number_reading x ≡ true) held (all_from_pass number_reading held h))
 
   module _ (s t : ℕ) (low : s < t) (high : t ≤ count) where
     abbrev seen : List ℤ

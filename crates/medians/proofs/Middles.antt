@@ -1,7 +1,7 @@
 -- The median of a list, found in the same readings in rising order, and that it is a least point of the sum of distances.
 use Rattle.std.proofs.Common.{◌≡◌, ℕ, zero, suc, ◌+◌, ◌-◌, ◌*◌, ◌/◌, ◌<◌, ◌≤◌, true, cond, ◌&&◌, leb, ◌⊎◌, List, [], ◌∷◌, ◌++◌, length, get_or, take, drop, ℤ, pos, ◌+ℤ◌, ◌-ℤ◌, neg_ℤ, ◌≤ℤ◌, ◌<ℤ◌, sum_by, filter, sym, refl, ap, ◌∙◌, subst, inl, inr, ⊎_elim, add-one, arith, length-drop, length-take}
 use lib.Signed.{le_z}
-use Rattle.std.specs.List.{between, AllByRecursion as All}
+use Rattle.std.specs.List.{between, AllByRecursion}
 use Rattle.std.proofs.lemmas.List.Edits.{split_between, between_none, between_more, length-between}
 use Rattle.std.proofs.ByRecursion.{All-take, All-drop, kept_by_passes}
 use Rattle.std.proofs.lemmas.List.{take-take, drop-drop}
@@ -57,16 +57,16 @@ one_le x y h = grind (arith, ints)
 one_gt : (x y : ℤ) → x <ℤ y → ◌≡◌ {A = ℕ} (cond (le_z y x) 1 0) 0
 one_gt x y h = grind (arith, ints)
 
-upto_all : (x : ℤ) (ys : List ℤ) → All (λ y. y ≤ℤ x) ys → upto x ys ≡ length ys
+upto_all : (x : ℤ) (ys : List ℤ) → AllByRecursion (λ y. y ≤ℤ x) ys → upto x ys ≡ length ys
 upto_all x [] a = refl
 upto_all x (y ∷ ys) a =
     sum_by-cons (λ z. cond (le_z z x) 1 0) y ys ∙ omega (arith, one_le x y a.0, upto_all x ys a.1)
 
-upto_none : (x : ℤ) (ys : List ℤ) → All (λ y. x <ℤ y) ys → upto x ys ≡ 0
+upto_none : (x : ℤ) (ys : List ℤ) → AllByRecursion (λ y. x <ℤ y) ys → upto x ys ≡ 0
 upto_none x [] a = refl
 upto_none x (y ∷ ys) a = sum_by-cons (λ z. cond (le_z z x) 1 0) y ys ∙ omega (arith, one_gt x y a.0, upto_none x ys a.1)
 
-less_all : (x m : ℤ) (ys : List ℤ) → x <ℤ m → All (λ y. m ≤ℤ y) ys → All (λ y. x <ℤ y) ys
+less_all : (x m : ℤ) (ys : List ℤ) → x <ℤ m → AllByRecursion (λ y. m ≤ℤ y) ys → AllByRecursion (λ y. x <ℤ y) ys
 less_all x m [] h a = tt
 less_all x m (y ∷ ys) h a = (omega (arith, ints, a.0), less_all x m ys h a.1)
 
@@ -136,7 +136,7 @@ paired_least x (a ∷ ls) (b ∷ hs) e =
     omega (arith, ints, far_apart x a b, paired_least x ls hs (omega arith), sum_by-cons (distance x) a ls, sum_by-cons (distance x) b hs)
 
 -- and a point between them is just as near
-pub paired_exact : (m : ℤ) (ls hs : List ℤ) → length ls ≡ length hs → All (λ y. y ≤ℤ m) ls → All (λ y. m ≤ℤ y) hs → int_sum hs -ℤ int_sum ls ≡ pos (distances m ls + distances m hs)
+pub paired_exact : (m : ℤ) (ls hs : List ℤ) → length ls ≡ length hs → AllByRecursion (λ y. y ≤ℤ m) ls → AllByRecursion (λ y. m ≤ℤ y) hs → int_sum hs -ℤ int_sum ls ≡ pos (distances m ls + distances m hs)
 paired_exact m [] [] e p q = refl
 paired_exact m [] (b ∷ hs) e p q = absurd (let z : ⊥ = omega arith in z)
 paired_exact m (a ∷ ls) [] e p q = absurd (let z : ⊥ = omega arith in z)
@@ -232,16 +232,16 @@ module _ (w : List ℤ) (up : Rising w) (some : 0 < length w) where
   distances_split : (x : ℤ) → distances x w ≡ distances x (lows w) + (distances x (mids w) + distances x (highs w))
   distances_split x = ap (distances x) parts ∙ distances_parts x (lows w) (mids w) (highs w)
 
-  lows_below : All (λ y. y ≤ℤ middle_of w) (lows w)
+  lows_below : AllByRecursion (λ y. y ≤ℤ middle_of w) (lows w)
   lows_below =
       let P : ℤ → Type 0 = λ y. y ≤ℤ middle_of w in
-      subst (All P) (take-take (upper w) (suc (middle w)) w (omega arith))
+      subst (AllByRecursion P) (take-take (upper w) (suc (middle w)) w (omega arith))
       (All-take P (upper w) (take (suc (middle w)) w) (rising-below w (middle w) up (omega arith)))
 
-  highs_above : All (λ y. middle_of w ≤ℤ y) (highs w)
+  highs_above : AllByRecursion (λ y. middle_of w ≤ℤ y) (highs w)
   highs_above =
       let P : ℤ → Type 0 = λ y. middle_of w ≤ℤ y in
-      subst (All P) (drop-drop 1 (middle w) w ∙ ap (λ n. drop n w) (add-one (middle w)))
+      subst (AllByRecursion P) (drop-drop 1 (middle w) w ∙ ap (λ n. drop n w) (add-one (middle w)))
       (All-drop P 1 (drop (middle w) w) (rising-above w (middle w) up (omega arith)))
 
   upper_cases : (upper w ≡ middle w) ⊎ (upper w ≡ suc (middle w))

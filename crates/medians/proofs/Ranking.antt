@@ -1,7 +1,7 @@
 -- The ranked readings: the same readings as those of the hole, in rising order, from which the hole is read back.
 use Rattle.std.proofs.Common.{◌≡◌, ℕ, zero, suc, ◌+◌, ◌<◌, ◌≤◌, Bool, true, false, cond, ◌&&◌, eqb, List, [], ◌∷◌, ◌++◌, map, length, take, drop, ℤ, ◌≤ℤ◌, sum_by, filter, sym, refl, ap, ◌∙◌, subst, ⊎_elim, append_assoc, append-nil, one-add, arith}
 use lib.Signed.{le_z}
-use Rattle.std.specs.List.{insert, AllByRecursion as All}
+use Rattle.std.specs.List.{insert, AllByRecursion}
 use Rattle.std.proofs.lemmas.List.Edits.{length-insert}
 use Rattle.std.proofs.ByRecursion.{All-append, All-take, All-drop, All-weaker, All-map, all_kept_by}
 use Rattle.std.proofs.lemmas.List.{length_push}
@@ -49,7 +49,7 @@ length-ranked = push_ind (λ h. length (ranked h) ≡ length h) (ap length ranke
     more h x e = ap length (ranked-push h x) ∙ (length-insert (ranked h) (rank x (ranked h)) (place x (length h)) (rank-within x (ranked h)) ∙ (ap (λ n. n + 1) e ∙ sym (length_push h x)))
 
 -- what holds of each place still does with one more
-all_ranked_with : (P : Place → Type 0) (p : Place) (ps : List Place) → P p → All P ps → All P (ranked_with p ps)
+all_ranked_with : (P : Place → Type 0) (p : Place) (ps : List Place) → P p → AllByRecursion P ps → AllByRecursion P (ranked_with p ps)
 all_ranked_with P p ps h a = All-append P (take (rank p.reading ps) ps) (p ∷ drop (rank p.reading ps) ps) (All-take P (rank p.reading ps) ps a) (h, All-drop P (rank p.reading ps) ps a)
 
 sum-ranked_with : (f : Place → ℕ) (p : Place) (ps : List Place) → sum_by f (ranked_with p ps) ≡ f p + sum_by f ps
@@ -58,22 +58,22 @@ sum-ranked_with f p ps =
     omega (arith, sum_by-append f (take i ps) (p ∷ drop i ps), sum_by-cons f p (drop i ps), sum_by-take-drop f ps i)
 
 -- the places are those of the readings so far
-pub ranked-below : (h : List ℤ) → All (λ p. p.at < length h) (ranked h)
-ranked-below = push_ind (λ h. All (λ p. p.at < length h) (ranked h)) (subst (All (λ p. p.at < 0)) (sym ranked_none) tt) more
+pub ranked-below : (h : List ℤ) → AllByRecursion (λ p. p.at < length h) (ranked h)
+ranked-below = push_ind (λ h. AllByRecursion (λ p. p.at < length h) (ranked h)) (subst (AllByRecursion (λ p. p.at < 0)) (sym ranked_none) tt) more
   where
-    more : (h : List ℤ) (x : ℤ) → All (λ p. p.at < length h) (ranked h) → All (λ p. p.at < length (h ++ (x ∷ []))) (ranked (h ++ (x ∷ [])))
+    more : (h : List ℤ) (x : ℤ) → AllByRecursion (λ p. p.at < length h) (ranked h) → AllByRecursion (λ p. p.at < length (h ++ (x ∷ []))) (ranked (h ++ (x ∷ [])))
     more h x a =
         let P : Place → Type 0 = λ p. p.at < length (h ++ (x ∷ [])) in
         let n = length_push h x in
-        subst (All P) (sym (ranked-push h x))
+        subst (AllByRecursion P) (sym (ranked-push h x))
         (all_ranked_with P (place x (length h)) (ranked h) (omega arith) (All-weaker (λ p. p.at < length h) P (λ p l. omega arith) (ranked h) a))
 
 -- each place passes a test if each reading does
-pub all_ranked : (P : ℤ → Type 0) (h : List ℤ) → All P h → All (λ p. P p.reading) (ranked h)
+pub all_ranked : (P : ℤ → Type 0) (h : List ℤ) → AllByRecursion P h → AllByRecursion (λ p. P p.reading) (ranked h)
 unfolding ranked_from
 all_ranked P h = from 0 [] h tt
   where
-    from : (n : ℕ) (ps : List Place) (h : List ℤ) → All (λ p. P p.reading) ps → All P h → All (λ p. P p.reading) (ranked_from n ps h)
+    from : (n : ℕ) (ps : List Place) (h : List ℤ) → AllByRecursion (λ p. P p.reading) ps → AllByRecursion P h → AllByRecursion (λ p. P p.reading) (ranked_from n ps h)
     from n ps [] a b = a
     from n ps (x ∷ xs) a b = from (suc n) (ranked_with (place x n) ps) xs (all_ranked_with (λ p. P p.reading) (place x n) ps b.0 a) b.1
 
@@ -84,7 +84,7 @@ at_other k zero p ps h = rw h
 at_other k (suc i) p [] h = rw h
 at_other k (suc i) p (q ∷ qs) h = ap (cond (eqb q.at k) q.reading) (at_other k i p qs h)
 
-at_itself : (k i : ℕ) (p : Place) (ps : List Place) → eqb p.at k ≡ true → All (λ q. eqb q.at k ≡ false) ps → reading_at k (take i ps ++ (p ∷ drop i ps)) ≡ p.reading
+at_itself : (k i : ℕ) (p : Place) (ps : List Place) → eqb p.at k ≡ true → AllByRecursion (λ q. eqb q.at k ≡ false) ps → reading_at k (take i ps ++ (p ∷ drop i ps)) ≡ p.reading
 at_itself k zero p ps h a = rw h
 at_itself k (suc i) p [] h a = rw h
 at_itself k (suc i) p (q ∷ qs) h a = let no = a.0 in rw no (at_itself k i p qs h a.1)
@@ -97,7 +97,7 @@ upto_other (suc n) i p ps h =
     let b = at_other n i p ps (ne_eqb p.at n (λ e. omega arith)) in
     ap (λ l. l ++ (reading_at n (take i ps ++ (p ∷ drop i ps)) ∷ [])) a ∙ ap (λ r. readings_upto n ps ++ (r ∷ [])) b
 
-readings_more : (n : ℕ) (x : ℤ) (ps : List Place) → All (λ q. q.at < n) ps → readings_upto (suc n) (ranked_with (place x n) ps) ≡ readings_upto n ps ++ (x ∷ [])
+readings_more : (n : ℕ) (x : ℤ) (ps : List Place) → AllByRecursion (λ q. q.at < n) ps → readings_upto (suc n) (ranked_with (place x n) ps) ≡ readings_upto n ps ++ (x ∷ [])
 unfolding readings_upto
 readings_more n x ps a =
     let i = rank x ps in
@@ -131,10 +131,10 @@ readings_of-ranked h = ap (λ n. readings_upto n (ranked h)) (length-ranked h) �
 abbrev pub readings : List Place → List ℤ
 readings ps = map (λ p. p.reading) ps
 
-all_readings : (P : ℤ → Type 0) (ps : List Place) → All (λ p. P p.reading) ps → All P (readings ps)
+all_readings : (P : ℤ → Type 0) (ps : List Place) → AllByRecursion (λ p. P p.reading) ps → AllByRecursion P (readings ps)
 all_readings P ps a = All-map P (λ p. p.reading) ps a
 
-readings_all : (P : ℤ → Type 0) (ps : List Place) → All P (readings ps) → All (λ p. P p.reading) ps
+readings_all : (P : ℤ → Type 0) (ps : List Place) → AllByRecursion P (readings ps) → AllByRecursion (λ p. P p.reading) ps
 readings_all P [] a = tt
 readings_all P (p ∷ ps) a = (a.0, readings_all P ps a.1)
 
@@ -146,7 +146,7 @@ with_before_at : (b : Bool) (n : ℕ) (p q : Place) (qs : List Place) → b ≡ 
 with_before_at true n p q qs h = absurd (true≢false h)
 with_before_at false n p q qs h = refl
 
-le_chain : (a b : ℤ) (ys : List ℤ) → a ≤ℤ b → All (λ y. b ≤ℤ y) ys → All (λ y. a ≤ℤ y) ys
+le_chain : (a b : ℤ) (ys : List ℤ) → a ≤ℤ b → AllByRecursion (λ y. b ≤ℤ y) ys → AllByRecursion (λ y. a ≤ℤ y) ys
 le_chain a b [] h l = tt
 le_chain a b (y ∷ ys) h l = (omega (arith, ints, l.0), le_chain a b ys h l.1)
 
@@ -176,7 +176,7 @@ rising-ranked = push_ind (λ h. Rising (readings (ranked h))) (subst (λ l. Risi
     more : (h : List ℤ) (x : ℤ) → Rising (readings (ranked h)) → Rising (readings (ranked (h ++ (x ∷ []))))
     more h x r = subst (λ l. Rising (readings l)) (sym (ranked-push h x)) (rising_with (place x (length h)) (ranked h) r)
 
-rising_kept_at : (b : Bool) (p : Place) (ps ks : List Place) → All (λ y. p.reading ≤ℤ y) (readings ks) → Rising (readings ks) → Rising (readings (cond b (p ∷ ks) ks))
+rising_kept_at : (b : Bool) (p : Place) (ps ks : List Place) → AllByRecursion (λ y. p.reading ≤ℤ y) (readings ks) → Rising (readings ks) → Rising (readings (cond b (p ∷ ks) ks))
 rising_kept_at true p ps ks a r = (a, r)
 rising_kept_at false p ps ks a r = r
 

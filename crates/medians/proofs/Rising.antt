@@ -2,29 +2,29 @@
 use Rattle.std.proofs.Common.{◌≡◌, ℕ, zero, suc, ◌<◌, Bool, true, false, cond, ◌⊎◌, List, [], ◌∷◌, length, get_or, take, drop, ℤ, pos, ◌≤ℤ◌, fold, filter, refl, ap, ◌∙◌, subst, inl, inr, arith}
 use lib.Signed.{lt_z}
 use Rattle.std.specs.Int.{int_min}
-use Rattle.std.specs.List.{AllByRecursion as All}
+use Rattle.std.specs.List.{AllByRecursion}
 use Rattle.std.proofs.lemmas.Int.{ints, clamps}
 use Rattle.std.proofs.lemmas.Bool.{false≢true}
 use Rattle.medians.specs.Medians.{lowest}
 
 abbrev pub Rising : List ℤ → Type 0
 Rising [] = Unit {0}
-Rising (x ∷ xs) = All (λ y. x ≤ℤ y) xs × Rising xs
+Rising (x ∷ xs) = AllByRecursion (λ y. x ≤ℤ y) xs × Rising xs
 
 pub none : {X : Type 0} (k : ℕ) → k < 0 → X
 none k h = absurd (let z : ⊥ = omega arith in z)
 
-pub rising-below : (w : List ℤ) (k : ℕ) → Rising w → k < length w → All (λ y. y ≤ℤ get_or w k (pos 0)) (take (suc k) w)
+pub rising-below : (w : List ℤ) (k : ℕ) → Rising w → k < length w → AllByRecursion (λ y. y ≤ℤ get_or w k (pos 0)) (take (suc k) w)
 rising-below [] k r h = tt
 rising-below (x ∷ xs) zero r h = (omega (arith, ints), tt)
 rising-below (x ∷ xs) (suc k) r h = (first x xs k r.0 (omega arith), rising-below xs k r.1 (omega arith))
   where
-    first : (x : ℤ) (xs : List ℤ) (k : ℕ) → All (λ y. x ≤ℤ y) xs → k < length xs → x ≤ℤ get_or xs k (pos 0)
+    first : (x : ℤ) (xs : List ℤ) (k : ℕ) → AllByRecursion (λ y. x ≤ℤ y) xs → k < length xs → x ≤ℤ get_or xs k (pos 0)
     first x [] k a h = none k h
     first x (y ∷ ys) zero a h = a.0
     first x (y ∷ ys) (suc k) a h = first x ys k a.1 (omega arith)
 
-pub rising-above : (w : List ℤ) (k : ℕ) → Rising w → k < length w → All (λ y. get_or w k (pos 0) ≤ℤ y) (drop k w)
+pub rising-above : (w : List ℤ) (k : ℕ) → Rising w → k < length w → AllByRecursion (λ y. get_or w k (pos 0) ≤ℤ y) (drop k w)
 rising-above [] k r h = none k h
 rising-above (x ∷ xs) zero r h = (omega (arith, ints), r.0)
 rising-above (x ∷ xs) (suc k) r h = rising-above xs k r.1 (omega arith)
@@ -39,7 +39,7 @@ in_get_or [] k h = none k h
 in_get_or (x ∷ xs) zero h = inl refl
 in_get_or (x ∷ xs) (suc k) h = inr (in_get_or xs k (omega arith))
 
-pub in_all : (P : ℤ → Type 0) (y : ℤ) (xs : List ℤ) → All P xs → In y xs → P y
+pub in_all : (P : ℤ → Type 0) (y : ℤ) (xs : List ℤ) → AllByRecursion P xs → In y xs → P y
 in_all P y [] a i = elim i [ ]
 in_all P y (x ∷ xs) a (inl e) = subst P e a.0
 in_all P y (x ∷ xs) a (inr i) = in_all P y xs a.1 i

@@ -1,6 +1,6 @@
 -- The median charge shows the laws.
 use Rattle.std.proofs.Common.{◌≡◌, ℕ, ◌+◌, ◌*◌, ◌<◌, ◌≤◌, true, List, ◌++◌, length, ℤ, filter, ap, subst, arith}
-use Rattle.std.specs.List.{AllByRecursion as All}
+use Rattle.std.specs.List.{AllByRecursion}
 use Rattle.std.proofs.ByRecursion.{All-weaker, sum_by_le}
 use Rattle.std.proofs.lemmas.List.Sums.{sum_by-append}
 use Rattle.std.proofs.lemmas.Bool.{le-leb}
@@ -43,10 +43,10 @@ module _ (u : List ℤ) (some : 0 < length u) where
       let k = kept_middle (sorted u) (rising-picked u 0 (length u)) sorted_some u (sorted_same u) in
       kept_in (half_upto u) (median u) u (lowest_in (middle_of (sorted u)) (filter (half_upto u) u) k)
 
-  pub median_number : All (λ x. number_reading x ≡ true) u → number_reading (median u) ≡ true
+  pub median_number : AllByRecursion (λ x. number_reading x ≡ true) u → number_reading (median u) ≡ true
   median_number a = in_all (λ x. number_reading x ≡ true) (median u) u a median_in
 
-  median-weight : All (λ x. number_reading x ≡ true) u → distances (median u) u ≤ length u * 2000000
+  median-weight : AllByRecursion (λ x. number_reading x ≡ true) u → distances (median u) u ≤ length u * 2000000
   median-weight a =
       let m = median_number a in
       sum_by_le (distance (median u)) 2000000 u (All-weaker (λ x. number_reading x ≡ true) (λ x. distance (median u) x ≤ 2000000) (λ x h. number_apart (median u) x m h) u a)

@@ -1,7 +1,7 @@
 -- The steps of the passes over the places.
 use Rattle.std.proofs.Common.{◌≡◌, ℕ, zero, suc, ◌+◌, ◌-◌, ◌*◌, ◌<◌, ◌≤◌, Bool, true, false, cond, List, [], ◌∷◌, ◌++◌, map, length, get_or, take, drop, set, ℤ, pos, ◌+ℤ◌, nat_abs, filter, sym, refl, ap, ◌∙◌, append-nil, add-one, arith, length-take, w64, SFits}
 use lib.Signed.{le_z}
-use Rattle.std.specs.List.{insert, AllByRecursion as All}
+use Rattle.std.specs.List.{insert, AllByRecursion}
 use Rattle.std.proofs.lemmas.List.Edits.{length-insert, get_or-insert_above, get_or-insert_at}
 use Rattle.std.proofs.lemmas.List.Elements.{filter-append, filter_more}
 use Rattle.std.proofs.ByRecursion.{All-map, all_kept_by}
@@ -89,13 +89,13 @@ balance-push low high ys y =
 pub share_size : (low high j : ℕ) (y : ℤ) → nat_abs y ≤ 1000000 → nat_abs (share low high j y) ≤ 1000000
 share_size low high j y h = grind (arith, ints)
 
-pub balance_size : (low high j : ℕ) (ys : List ℤ) → All (λ y. number_reading y ≡ true) ys → nat_abs (balance low high j ys) ≤ 1000000 * length ys
+pub balance_size : (low high j : ℕ) (ys : List ℤ) → AllByRecursion (λ y. number_reading y ≡ true) ys → nat_abs (balance low high j ys) ≤ 1000000 * length ys
 unfolding balance
 balance_size low high j [] a = omega arith
 balance_size low high j (y ∷ ys) a =
     omega (arith, ints, share_size low high j y (number_size y a.0), balance_size low high (suc j) ys a.1)
 
-pub all_picked : (s t : ℕ) (ps : List Place) → All (λ p. number_reading p.reading ≡ true) ps → All (λ y. number_reading y ≡ true) (picked s t ps)
+pub all_picked : (s t : ℕ) (ps : List Place) → AllByRecursion (λ p. number_reading p.reading ≡ true) ps → AllByRecursion (λ y. number_reading y ≡ true) (picked s t ps)
 all_picked s t ps a =
     All-map (λ y. number_reading y ≡ true) (λ p. p.reading) (filter (λ p. in_segment_lem s t p.at) ps)
     (all_kept_by (λ p. in_segment_lem s t p.at) (λ p. number_reading p.reading ≡ true) ps a)
@@ -108,7 +108,7 @@ module _ (low high seen : ℕ) (front : List ℤ) (y a b : ℤ) (was : a ≡ bal
       ∙ (ap (λ z. balance low high 0 front +ℤ z) (adds ∙ ap (λ k. share low high k y) n)
       ∙ (sym (balance-push low high front y) ∙ ap (balance low high 0) (sym e)))
 
-  pub balance_fits : All (λ z. number_reading z ≡ true) front → length front ≤ 1024 → number_reading y ≡ true → SFits w64 (a +ℤ b)
+  pub balance_fits : AllByRecursion (λ z. number_reading z ≡ true) front → length front ≤ 1024 → number_reading y ≡ true → SFits w64 (a +ℤ b)
   balance_fits all few h =
       let size = balance_size low high 0 front all in
       let one = share_size low high seen y (number_size y h) in

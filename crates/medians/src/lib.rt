@@ -3,7 +3,7 @@
 #![tactic(auto)]
 
 ghost use Rattle.std.specs.Prelude.{◌≡◌, ℕ, ◌+◌, ◌-◌, ◌/◌, ◌<◌, ◌≤◌, true, [], ◌∷◌, ◌++◌, length, take, drop, pos, slice_index_or};
-ghost use Rattle.std.specs.List.{insert, AllByRecursion as All};
+ghost use Rattle.std.specs.List.{insert, AllByRecursion};
 ghost use Rattle.amounts.specs.Kinds.{whole_kind};
 ghost use Rattle.charges.specs.Rules.{ChargeLaws, all_lawful, segment};
 ghost use Rattle.readings.specs.Numbers.{number_reading, all_numbers};
@@ -153,7 +153,7 @@ fn share_of(low: usize, high: usize, seen: usize, reading: i64) -> i64
 
 // The sum of the upper readings of the segment (s, t) less that of the lower ones.
 fn balance_of(places: &[Place], s: usize, t: usize, low: usize, high: usize) -> i64
-    requires { (length places.now ≤ 1024) × (All (λ p. number_reading p.reading ≡ true) places.now) }
+    requires { (length places.now ≤ 1024) × (AllByRecursion (λ p. number_reading p.reading ≡ true) places.now) }
     ensures value { result ≡ balance low high 0 (picked s t places.now) }
 {
     let mut seen = 0usize;

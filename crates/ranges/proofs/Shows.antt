@@ -1,7 +1,7 @@
 -- The range charge shows the laws.
 use Rattle.std.proofs.Common.{◌≡◌, ℕ, ◌+◌, ◌*◌, ◌<◌, ◌≤◌, true, List, [], ◌∷◌, ◌++◌, length, ℤ, ◌-ℤ◌, nat_abs, ◌≤ℤ◌, sym, refl, ap, ◌∙◌, subst, ap₂, add-mul, arith, length-append}
 use Rattle.std.specs.Int.{int_min, int_max}
-use Rattle.std.specs.List.{AllByRecursion as All}
+use Rattle.std.specs.List.{AllByRecursion}
 use Rattle.std.proofs.lemmas.Nat.{mul-le}
 use Rattle.std.proofs.lemmas.Int.{ints, clamps}
 use Rattle.std.proofs.lemmas.Bool.{le-leb}
@@ -72,7 +72,7 @@ range-splits u v p q =
     let e = ap (λ n. n * m) (length-append u v) ∙ add-mul (length u) (length v) m in
     omega (arith, a, b, e)
 
-range-weight : (u : List ℤ) → 0 < length u → All (λ x. number_reading x ≡ true) u → length u * range u ≤ length u * 2000000
+range-weight : (u : List ℤ) → 0 < length u → AllByRecursion (λ x. number_reading x ≡ true) u → length u * range u ≤ length u * 2000000
 range-weight u p a = let n = number_ends u p a in mul-le (length u) (range u) (length u) 2000000 (omega arith) (number_apart (highest u) (lowest u) n.1 n.0)
 
 pub range-laws : (c : ℕ) → c ≤ 1024 → ChargeLaws whole_kind (range_rules c)

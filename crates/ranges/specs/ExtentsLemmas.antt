@@ -2,7 +2,7 @@
 use Rattle.std.specs.Prelude.{◌≡◌, ℕ, ◌-◌, ◌<◌, ◌≤◌, true, ◌&&◌, List, [], ◌∷◌, ◌++◌, map, length, take, drop, ℤ, Some, int_le, int_lt, refl}
 use Rattle.std.proofs.Common.{sym, ap, ap₂, ◌∙◌, arith, length-take}
 use Rattle.std.specs.Int.{int_min, int_max}
-use Rattle.std.specs.List.{between, AllByRecursion as All}
+use Rattle.std.specs.List.{between, AllByRecursion}
 use Rattle.std.proofs.lemmas.List.{length-map, take-map, drop-map}
 use Rattle.std.proofs.lemmas.Int.{ints, clamps}
 use Rattle.std.proofs.lemmas.Bool.{and_parts, and_from, cond_both}
@@ -55,7 +55,7 @@ points_are (e ∷ es) h =
     let q = and_parts (number_reading e.low) (all_points es) p.1 in
     ap₂ (λ x xs. x ∷ xs) (ap (extent e.low) (sym (same e.low e.high p.0))) (points_are es q.1)
 
-pub points_numbers : (es : List Extent) → all_points es ≡ true → All Number (map low_of es)
+pub points_numbers : (es : List Extent) → all_points es ≡ true → AllByRecursion Number (map low_of es)
 points_numbers [] h = tt
 points_numbers (e ∷ es) h =
     let p = and_parts (int_le e.low e.high && int_le e.high e.low) (number_reading e.low && all_points es) h in
@@ -80,15 +80,15 @@ pub joining_readings : (u : List ℤ) → 0 < length u → joining hull (map poi
 joining_readings [] some = absurd (omega (arith, some))
 joining_readings (x ∷ xs) some = joining_points x xs
 
-pub lowest_number : (x : ℤ) (xs : List ℤ) → All Number (x ∷ xs) → Number (lowest_of x xs)
+pub lowest_number : (x : ℤ) (xs : List ℤ) → AllByRecursion Number (x ∷ xs) → Number (lowest_of x xs)
 lowest_number x [] a = a.0
 lowest_number x (y ∷ ys) a = cond_both (int_lt (lowest_of y ys) x) (lowest_of y ys) x Number (λ _. lowest_number y ys a.1) (λ _. a.0)
 
-pub highest_number : (x : ℤ) (xs : List ℤ) → All Number (x ∷ xs) → Number (highest_of x xs)
+pub highest_number : (x : ℤ) (xs : List ℤ) → AllByRecursion Number (x ∷ xs) → Number (highest_of x xs)
 highest_number x [] a = a.0
 highest_number x (y ∷ ys) a = cond_both (int_lt (highest_of y ys) x) x (highest_of y ys) Number (λ _. a.0) (λ _. highest_number y ys a.1)
 
-pub number_ends : (u : List ℤ) → 0 < length u → All Number u → Number (lowest u) × Number (highest u)
+pub number_ends : (u : List ℤ) → 0 < length u → AllByRecursion Number u → Number (lowest u) × Number (highest u)
 number_ends [] some a = absurd (omega (arith, some))
 number_ends (x ∷ xs) some a = (lowest_number x xs a, highest_number x xs a)
 

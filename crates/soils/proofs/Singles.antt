@@ -3,7 +3,7 @@ use Rattle.std.proofs.Common.{◌≡◌, ℕ, zero, suc, ◌-◌, ◌*◌, ◌/�
 use lib.Bits.{bit_or, or_zero_r}
 use lib.Count.{count_trailing_zeros, under}
 use lib.Signed.{le_z}
-use Rattle.std.specs.List.{between, AllByRecursion as All}
+use Rattle.std.specs.List.{between, AllByRecursion}
 use Rattle.std.proofs.lemmas.Nat.{pow-add}
 use Rattle.std.proofs.lemmas.List.{length-map, take-map, drop-map}
 use Rattle.std.proofs.lemmas.Int.{ints}
@@ -64,7 +64,7 @@ singles_are (a ∷ l) h =
     let q = and_parts (ltb (count_trailing_zeros 32 a.bits) 32) (eqb a.bits (2 ^ count_trailing_zeros 32 a.bits)) p.0 in
     ap₂ (λ x xs. x ∷ xs) (ap symbols (eqb-true a.bits (2 ^ count_trailing_zeros 32 a.bits) q.1)) (singles_are l p.1)
 
-pub singles_symbols : (l : List Symbols) → all_single l ≡ true → All Symbol (map symbol_of l)
+pub singles_symbols : (l : List Symbols) → all_single l ≡ true → AllByRecursion Symbol (map symbol_of l)
 singles_symbols [] h = tt
 singles_symbols (a ∷ l) h =
     let p = and_parts (ltb (count_trailing_zeros 32 a.bits) 32 && eqb a.bits (2 ^ count_trailing_zeros 32 a.bits)) (all_single l) h in
@@ -77,12 +77,12 @@ singles_push (a ∷ l) x h n =
     let p = and_parts (ltb (count_trailing_zeros 32 a.bits) 32 && eqb a.bits (2 ^ count_trailing_zeros 32 a.bits)) (all_single l) h in
     and_from _ _ p.0 (singles_push l x p.1 n)
 
-pub joining_singles : (x : ℤ) (xs : List ℤ) → All Symbol (x ∷ xs) → joining union (map single (x ∷ xs)) ≡ Some (symbols (set_of (x ∷ xs)))
+pub joining_singles : (x : ℤ) (xs : List ℤ) → AllByRecursion Symbol (x ∷ xs) → joining union (map single (x ∷ xs)) ≡ Some (symbols (set_of (x ∷ xs)))
 joining_singles x [] a = ap (λ n. Some (symbols n)) (sym (with_one 32 x [] (symbol_is x a.0).1 ∙ (ap (bit_or (2 ^ nat_abs x)) (set_none 32) ∙ or_zero_r (2 ^ nat_abs x))))
 joining_singles x (y ∷ ys) a =
     ap (both union (Some (single x))) (joining_singles y ys a.1) ∙ ap (λ n. Some (symbols n)) (sym (with_one 32 x (y ∷ ys) (symbol_is x a.0).1))
 
-pub joining_readings : (u : List ℤ) → 0 < length u → All Symbol u → joining union (map single u) ≡ Some (symbols (set_of u))
+pub joining_readings : (u : List ℤ) → 0 < length u → AllByRecursion Symbol u → joining union (map single u) ≡ Some (symbols (set_of u))
 joining_readings [] some a = absurd (omega (arith, some))
 joining_readings (x ∷ xs) some a = joining_singles x xs a
 

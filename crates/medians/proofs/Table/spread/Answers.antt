@@ -1,6 +1,6 @@
 use Rattle.std.proofs.Common.{◌≡◌, ℕ, ◌-◌, ◌/◌, true, T, take, ℤ, pos, nat_abs, sym, ap, ◌∙◌, subst, arith, length-take, w64, Fits, SFits, to_z, of_z, rules}
 use lib.Signed.{non_neg}
-use Rattle.std.specs.List.{AllByRecursion as All}
+use Rattle.std.specs.List.{AllByRecursion}
 use Rattle.std.proofs.lemmas.Int.{to_z-of_z}
 use Rattle.charges.specs.Rules.{segment}
 use Rattle.readings.specs.Numbers.{number_reading}
@@ -16,7 +16,7 @@ balance_of-requires c =
     let n = c.args.count in
     let e : n ≡ n - 0 = omega arith in
     let all = numbers_held ps n c.requires.room c.requires.order c.requires.numbers in
-    (simp length-take (omega (arith, c.requires.few)), subst (λ k. All (λ p. number_reading p.reading ≡ true) (take k ps)) e all)
+    (simp length-take (omega (arith, c.requires.few)), subst (λ k. AllByRecursion (λ p. number_reading p.reading ≡ true) (take k ps)) e all)
 
 cast_fits : (z : ℤ) (d : ℕ) → z ≡ pos d → SFits w64 z → T (non_neg (to_z w64 (of_z w64 z))) × Fits w64 (nat_abs (to_z w64 (of_z w64 z)))
 cast_fits z d e fit =
