@@ -3,7 +3,7 @@ ghost use Rattle.std.specs.Prelude.{◌≡◌, ℕ, ◌<◌, ◌≤◌, true, []
 ghost use Rattle.charges.specs.Told.{take_told};
 ghost use Rattle.readings.specs.Symbols.{symbol_reading, all_symbols};
 ghost use Rattle.readings.specs.Makings.{making_told, made_capacity};
-ghost use Rattle.modes.specs.Modes.{mode as commonest-symbol, mode_rules, mode_levels};
+ghost use Rattle.modes.specs.Modes.{mode as commonest_symbol, mode_rules, mode_levels};
 
 use crate::{Table, show_laws};
 use amounts::Whole;
@@ -69,7 +69,7 @@ impl<'a> Charge for Mode<'a> {
 
     ghost rules = { λ c. mode_rules c.capacity };
 
-    ghost leveling = { λ c. commonest-symbol };
+    ghost leveling = { λ c. commonest_symbol };
 
     ghost held = { λ c. take c.count c.table.places.now };
 

@@ -14,7 +14,8 @@ use Rattle.ranges.specs.declared.extent.Extent.{Extent}
 use Rattle.ranges.specs.contracts.extent.Extent as E
 use Rattle.ranges.specs.Ranges.{lowest, highest}
 use Rattle.ranges.specs.Extents.{extent, hull, point, all_points, held_in}
-use Rattle.ranges.specs.ExtentsLemmas.{hull_assoc, hull_idem, points_numbers, points_push, joining_readings, number_ends, length_held, between_points}
+use Rattle.ranges.specs.Hulls.{hull_assoc, hull_idem}
+use Rattle.ranges.proofs.Extents.{points_numbers, points_push, joining_readings, number_ends, length_held, between_points}
 
 pub extents_set : IsSet Extent
 extents_set = Coded-set (E.the_row).coded

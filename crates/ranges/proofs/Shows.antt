@@ -11,7 +11,7 @@ use Rattle.charges.proofs.Lawful.{all_from_pass}
 use Rattle.readings.specs.Numbers.{number_reading}
 use Rattle.readings.proofs.Ranges.{number_apart}
 use Rattle.ranges.specs.Ranges.{lowest, highest, lowest_of, highest_of, range, range_rules}
-use Rattle.ranges.specs.ExtentsLemmas.{number_ends}
+use Rattle.ranges.proofs.Extents.{number_ends}
 
 lowest-append : (x y : ℤ) (xs ys : List ℤ) → lowest_of x (xs ++ (y ∷ ys)) ≡ int_min (lowest_of x xs) (lowest_of y ys)
 lowest-append x y [] ys = refl

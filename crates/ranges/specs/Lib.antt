@@ -1,3 +1,3 @@
 pub mod Ranges
 pub mod Extents
-pub mod ExtentsLemmas
+pub mod Hulls

@@ -9,7 +9,7 @@ ghost use Rattle.readings.specs.Numbers.{number_reading, all_numbers};
 ghost use Rattle.spans.specs.Rows.{cells_for, Built};
 ghost use Rattle.ranges.specs.Ranges.{lowest, highest, range_fee, middle, range_rules};
 ghost use Rattle.ranges.specs.Extents.{hull, all_points, held_in};
-ghost use Rattle.ranges.specs.ExtentsLemmas.{hull_assoc, hull_comm, hull_idem};
+ghost use Rattle.ranges.specs.Hulls.{hull_assoc, hull_comm, hull_idem};
 
 use extent::Extent;
 use spans::{Joining, joined_cells, push_cells};

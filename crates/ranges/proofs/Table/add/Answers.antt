@@ -6,7 +6,7 @@ use Rattle.spans.proofs.Powers.{cells_enough}
 use Rattle.spans.proofs.Spans.{built_after}
 use Rattle.spans.proofs.Telling.{push_yes}
 use Rattle.ranges.specs.Extents.{hull, point}
-use Rattle.ranges.specs.ExtentsLemmas.{hull_assoc}
+use Rattle.ranges.specs.Hulls.{hull_assoc}
 use Rattle.ranges.proofs.Charged.{more_points, more_held}
 use Rattle.ranges.proofs.Table.add.Goals as goal
 

@@ -3,7 +3,7 @@ use Rattle.std.proofs.lemmas.Int.{to_z-of_z}
 use Rattle.readings.proofs.Segments.{length-segment}
 use Rattle.spans.proofs.Powers.{cells_enough}
 use Rattle.ranges.specs.Extents.{held_in}
-use Rattle.ranges.specs.ExtentsLemmas.{length_held}
+use Rattle.ranges.proofs.Extents.{length_held}
 use Rattle.ranges.proofs.Table.fee_between.Goals as goal
 
 pub returns : goal.returns

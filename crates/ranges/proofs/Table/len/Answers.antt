@@ -3,7 +3,7 @@ use Rattle.readings.specs.Numbers.{number_reading}
 use Rattle.charges.proofs.Lawful.{pass_from_all}
 use Rattle.spans.proofs.Powers.{cells_enough}
 use Rattle.ranges.specs.Extents.{held_in}
-use Rattle.ranges.specs.ExtentsLemmas.{length_held, points_numbers}
+use Rattle.ranges.proofs.Extents.{length_held, points_numbers}
 use Rattle.ranges.proofs.Table.len.Goals as goal
 
 pub returns : goal.returns

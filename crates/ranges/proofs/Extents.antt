@@ -1,43 +1,15 @@
 -- Extents, and the readings of a table of them.
-use Rattle.std.specs.Prelude.{◌≡◌, ℕ, ◌-◌, ◌<◌, ◌≤◌, true, ◌&&◌, List, [], ◌∷◌, ◌++◌, map, length, take, drop, ℤ, Some, int_le, int_lt, refl}
-use Rattle.std.proofs.Common.{sym, ap, ap₂, ◌∙◌, arith, length-take}
-use Rattle.std.specs.Int.{int_min, int_max}
+use Rattle.std.proofs.Common.{◌≡◌, ℕ, ◌-◌, ◌<◌, ◌≤◌, true, ◌&&◌, List, [], ◌∷◌, ◌++◌, map, length, take, drop, ℤ, Some, sym, refl, ap, ap₂, ◌∙◌, arith, length-take}
+use Rattle.std.specs.Prelude.{int_le, int_lt}
 use Rattle.std.specs.List.{between, AllByRecursion}
 use Rattle.std.proofs.lemmas.List.{length-map, take-map, drop-map}
-use Rattle.std.proofs.lemmas.Int.{ints, clamps}
+use Rattle.std.proofs.lemmas.Int.{ints}
 use Rattle.std.proofs.lemmas.Bool.{and_parts, and_from, cond_both}
 use Rattle.readings.specs.Numbers.{number_reading}
 use Rattle.spans.specs.Joinings.{both, joining}
 use Rattle.ranges.specs.declared.extent.Extent.{Extent}
 use Rattle.ranges.specs.Ranges.{lowest, highest, lowest_of, highest_of}
 use Rattle.ranges.specs.Extents.{extent, hull, point, all_points, held_in}
-
-min_assoc : (a b c : ℤ) → int_min (int_min a b) c ≡ int_min a (int_min b c)
-min_assoc a b c = omega (arith, ints, clamps)
-
-max_assoc : (a b c : ℤ) → int_max (int_max a b) c ≡ int_max a (int_max b c)
-max_assoc a b c = omega (arith, ints, clamps)
-
-min_comm : (a b : ℤ) → int_min a b ≡ int_min b a
-min_comm a b = omega (arith, ints, clamps)
-
-max_comm : (a b : ℤ) → int_max a b ≡ int_max b a
-max_comm a b = omega (arith, ints, clamps)
-
-min_idem : (a : ℤ) → int_min a a ≡ a
-min_idem a = omega (arith, ints, clamps)
-
-max_idem : (a : ℤ) → int_max a a ≡ a
-max_idem a = omega (arith, ints, clamps)
-
-pub hull_assoc : (x y z : Extent) → hull (hull x y) z ≡ hull x (hull y z)
-hull_assoc x y z = ap₂ extent (min_assoc x.low y.low z.low) (max_assoc x.high y.high z.high)
-
-pub hull_comm : (x y : Extent) → hull x y ≡ hull y x
-hull_comm x y = ap₂ extent (min_comm x.low y.low) (max_comm x.high y.high)
-
-pub hull_idem : (x : Extent) → hull x x ≡ x
-hull_idem x = ap₂ extent (min_idem x.low) (max_idem x.high)
 
 abbrev Number : ℤ → Type 0
 Number x = number_reading x ≡ true
