@@ -1,9 +1,9 @@
 // Amounts: what fees, penalties and totals are. The interface with its laws, and the two kinds.
 #![tactic(auto)]
 
-ghost use Rattle.std.specs.Prelude.{◌≡◌, ℕ, ◌+◌, ◌^◌, ◌≤◌};
+ghost use Rattle.std.specs.Prelude.{◌≡◌, ◌+◌, ◌^◌, ◌≤◌};
 ghost use Rattle.amounts.specs.Kind.{Kind, Laws};
-ghost use Rattle.amounts.specs.Kinds.{whole_kind, pair_kind};
+ghost use Rattle.amounts.specs.Kinds.{pair, whole_kind, pair_kind};
 ghost use Rattle.amounts.specs.Lawful.{whole_laws, pair_laws};
 
 // A kind of amounts. What a value means is the amount `kind` speaks of, which has no upper limit.
@@ -33,7 +33,7 @@ pub trait Amount: Copy {
 }
 
 // A whole amount: a whole number from 0.
-#[derive(Clone, Copy, PartialEq, Eq, Debug)]
+#[derive(Clone, Copy, PartialEq, Eq, PartialOrd, Ord, Debug)]
 pub struct Whole {
     pub number: u64,
 }
@@ -54,7 +54,7 @@ impl Amount for Whole {
     }
 
     fn at_most(self, other: Whole) -> bool {
-        self.number <= other.number
+        self <= other // by the number
     }
 
     fn weight(self) -> u64 {
@@ -65,14 +65,13 @@ impl Amount for Whole {
         (self.number, 0)
     }
 
-    fn from_words(first: u64, second: u64) -> Whole {
-        let _ = second;
+    fn from_words(first: u64, _second: u64) -> Whole {
         Whole { number: first }
     }
 }
 
 // A pair amount: a cost, and how many layers it is paid for.
-#[derive(Clone, Copy, PartialEq, Eq, Debug)]
+#[derive(Clone, Copy, PartialEq, Eq, PartialOrd, Ord, Debug)]
 pub struct Pair {
     pub cost: u64,
     pub layers: u64,
@@ -95,7 +94,7 @@ impl Amount for Pair {
     }
 
     fn at_most(self, other: Pair) -> bool {
-        self.cost < other.cost || (self.cost == other.cost && self.layers <= other.layers)
+        self <= other // by the cost, and then by the layers
     }
 
     fn weight(self) -> u64 {
@@ -110,6 +109,18 @@ impl Amount for Pair {
         Pair {
             cost: first,
             layers: second,
+        }
+    }
+}
+
+// A whole amount as a pair: a cost that is paid for no layer.
+impl From<Whole> for Pair {
+    ghost from_gives = { λ w p. p ≡ pair w.number 0 };
+
+    fn from(whole: Whole) -> Pair {
+        Pair {
+            cost: whole.number,
+            layers: 0,
         }
     }
 }

@@ -49,22 +49,16 @@ mod tests {
         assert_eq!(rt; charge.level(0, 2), Ok(2));
     }
 
-    // The fee of the first two readings, and the price of the first at level 2, of the charge lifted.
-    fn lifted<C: LevelCharge + Charge<Cost = Whole> + Drop>(
-        mut charge: C,
-    ) -> (Result<Pair, Refusal>, Result<Pair, Refusal>) {
-        let _ = charge.take(5);
-        let _ = charge.take(2);
-        let lift = Lift { inner: charge };
-        (lift.fee(0, 2), lift.price(0, 2))
-    }
-
     #[test]
     fn lifted_fees_and_prices(rt: HostRuntime) {
         let mut table = [0i64; 2];
-        let (fee, price) = lifted(Mode::new(&mut table, 2));
+        let mut lift = Lift {
+            inner: Mode::new(&mut table, 2),
+        };
+        assert_eq!(rt; lift.take(5), Ok(()));
+        assert_eq!(rt; lift.take(2), Ok(()));
         let one = Pair { cost: 1, layers: 0 };
-        assert_eq!(rt; fee, Ok(one));
-        assert_eq!(rt; price, Ok(one));
+        assert_eq!(rt; lift.fee(0, 2), Ok(one));
+        assert_eq!(rt; lift.price(0, 2), Ok(one));
     }
 }

@@ -1,5 +1,5 @@
 // Level charges: charges that choose between a few levels.
-ghost use Rattle.std.specs.Prelude.{◌≡◌, ℕ};
+ghost use Rattle.std.specs.Prelude.{◌≡◌};
 ghost use Rattle.charges.specs.Levels.{Levels, LevelLaws, price_told};
 
 use crate::{Charge, Refusal};
@@ -12,10 +12,10 @@ pub trait LevelCharge: Charge {
     // How many levels are offered. It also gives the laws of levels, for every list, and that take leaves the levels alone.
     fn count_levels(&self) -> usize
         ensures value { result ≡ (levels self.now).offered }
-        ensures laws { LevelLaws Self.Cost.Amount.kind (Self.Charge.rules self.now) (Self.Charge.leveling self.now) (levels self.now) }
-        ensures steady { (later : Self) → Self.Charge.alike self.now later → levels later ≡ levels self.now };
+        ensures laws { LevelLaws Self.Cost.kind (Self.rules self.now) (Self.leveling self.now) (levels self.now) }
+        ensures steady { (later : Self) → Self.alike self.now later → levels later ≡ levels self.now };
 
     // The price of the reading held at a place, at a level.
     fn price(&self, place: usize, level: usize) -> Result<Self::Cost, Refusal>
-        ensures value { result ≡ price_told (levels self.now) (Self.Charge.held self.now) place level };
+        ensures value { result ≡ price_told (levels self.now) (Self.held self.now) place level };
 }

@@ -1,7 +1,7 @@
 // Charges: what a charge is, not which there are. The interface, its laws and the refusals.
 #![tactic(auto)]
 
-ghost use Rattle.std.specs.Prelude.{◌≡◌, ℕ, false, List, length, ℤ, is_ok};
+ghost use Rattle.std.specs.Prelude.{◌≡◌, false, List, length, ℤ, is_ok};
 ghost use Rattle.charges.specs.Refusals.{refusal_number};
 ghost use Rattle.charges.specs.Rules.{Rules, ChargeLaws, Held};
 ghost use Rattle.charges.specs.Told.{take_told, after_take, segment_told};
@@ -10,35 +10,28 @@ use amounts::Amount;
 
 pub mod levels;
 
-// Why a call says no. A refused call changes nothing.
+// Why a call says no, by its number. A refused call changes nothing.
 #[derive(Clone, Copy, PartialEq, Eq, Debug)]
 pub enum Refusal {
     // a new charge: the capacity is 0 or above 1,024
-    Capacity,
+    Capacity = 1,
     // a new charge: the level set is empty, longer than 32, not strictly rising or out of range
-    LevelSet,
+    LevelSet = 2,
     // a new charge: the table is shorter than the capacity needs
-    ShortTable,
+    ShortTable = 3,
     // the capacity is reached
-    Full,
+    Full = 6,
     // the reading is not lawful
-    Unlawful,
+    Unlawful = 7,
     // the segment is not one of the readings held, the place is not below their number, or the level is not offered
-    Outside,
+    Outside = 9,
 }
 
 impl Refusal {
     pub fn number(self) -> u8
         ensures value { result ≡ refusal_number self }
     {
-        match self {
-            Refusal::Capacity => 1,
-            Refusal::LevelSet => 2,
-            Refusal::ShortTable => 3,
-            Refusal::Full => 6,
-            Refusal::Unlawful => 7,
-            Refusal::Outside => 9,
-        }
+        self as u8
     }
 }
 
@@ -77,7 +70,7 @@ pub trait Charge {
     // How many readings are held. It also gives the laws: those of the rules, for every list, and those of the list held.
     fn count(&self) -> usize
         ensures value { result ≡ length (held self.now) }
-        ensures laws { ChargeLaws Self.Cost.Amount.kind (rules self.now) }
+        ensures laws { ChargeLaws Self.Cost.kind (rules self.now) }
         ensures held { Held (rules self.now) (held self.now) };
 
     fn capacity(&self) -> usize

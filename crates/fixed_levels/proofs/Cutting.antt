@@ -5,7 +5,6 @@ use Rattle.std.proofs.lemmas.Int.{ints, to_z-of_z}
 use Rattle.charges.specs.Rules.{segment}
 use Rattle.readings.specs.Numbers.{number_reading, all_numbers}
 use Rattle.charges.proofs.Lawful.{all_from_pass}
-use Rattle.readings.proofs.Segments.{length-segment}
 use Rattle.fixed_levels.specs.Fixed.{square}
 use Rattle.fixed_levels.specs.Sums.{sum_of, squares_of, squares_about}
 use Rattle.fixed_levels.proofs.About.{about_is, sum_size}
@@ -49,7 +48,7 @@ module _ {h : List ℤ} {s t : ℕ} {a b : ℤ} {p q : ℕ} (g : Ends h s t a b 
   pub less_fits : SFits w64 (back a -ℤ back b)
   less_fits = subst (SFits w64) (sym less_is) (sum-small (sum_of layer) (t - s) (sum_bound h s t g.some g.within g.numbers) (omega (arith, g.within, g.few)))
 
-  less_back : back (back a -ℤ back b) ≡ sum_of layer
+  pub less_back : back (back a -ℤ back b) ≡ sum_of layer
   less_back = to_z-of_z w64 (back a -ℤ back b) less_fits ∙ less_is
 
   pub less_size : nat_abs (back (back a -ℤ back b)) ≤ (t - s) * 1000000
@@ -58,23 +57,23 @@ module _ {h : List ℤ} {s t : ℕ} {a b : ℤ} {p q : ℕ} (g : Ends h s t a b 
   pub squares_less : q ≤ p
   squares_less = omega (arith, squares_cut h s t g.some, g.squares_all, g.squares_before)
 
-  squares_is : p - q ≡ squares_of layer
+  pub squares_is : p - q ≡ squares_of layer
   squares_is = omega (arith, squares_cut h s t g.some, g.squares_all, g.squares_before)
 
   pub squares_small : p - q ≤ (t - s) * 1000000000000
   squares_small = omega (arith, squares_is, squares_bound h s t g.some g.within g.numbers)
 
-  module _ (l : ℤ) where
-    -- by the sums as they were worked out
-    about_told : pos (squares_about l layer) ≡ pos ((p - q) + (t - s) * square l) -ℤ pos 2 *ℤ (l *ℤ back (back a -ℤ back b))
-    about_told =
-        about_is l layer
-        ∙ (ap (λ k. pos (k + length layer * square l) -ℤ pos 2 *ℤ (l *ℤ sum_of layer)) (sym squares_is)
-        ∙ (ap (λ k. pos ((p - q) + k * square l) -ℤ pos 2 *ℤ (l *ℤ sum_of layer)) (length-segment h s t g.within)
-        ∙ ap (λ z. pos ((p - q) + (t - s) * square l) -ℤ pos 2 *ℤ (l *ℤ z)) (sym less_back)))
+-- the sum of squared distances to l of the readings u, from their totals n, s and q
+module _ (u : List ℤ) (l : ℤ) {n q : ℕ} {s : ℤ} (count : n ≡ length u) (sum : s ≡ sum_of u) (squares : q ≡ squares_of u) where
+  about_told : pos (squares_about l u) ≡ pos (q + n * square l) -ℤ pos 2 *ℤ (l *ℤ s)
+  about_told =
+      about_is l u
+      ∙ (ap (λ k. pos (k + length u * square l) -ℤ pos 2 *ℤ (l *ℤ sum_of u)) (sym squares)
+      ∙ (ap (λ k. pos (q + k * square l) -ℤ pos 2 *ℤ (l *ℤ sum_of u)) (sym count)
+      ∙ ap (λ z. pos (q + n * square l) -ℤ pos 2 *ℤ (l *ℤ z)) (sym sum)))
 
-    pub whole-told : (pos 2 *ℤ (l *ℤ back (back a -ℤ back b))) ≤ℤ pos ((p - q) + (t - s) * square l)
-    whole-told = not_more (squares_about l layer) _ _ about_told
+  pub whole_told : (pos 2 *ℤ (l *ℤ s)) ≤ℤ pos (q + n * square l)
+  whole_told = not_more (squares_about l u) _ _ about_told
 
-    pub cost-told : (r : ℕ) → pos r ≡ pos ((p - q) + (t - s) * square l) -ℤ pos 2 *ℤ (l *ℤ back (back a -ℤ back b)) → r ≡ squares_about l layer
-    cost-told r e = ap nat_abs (e ∙ sym about_told)
+  pub cost_told : (r : ℕ) → pos r ≡ pos (q + n * square l) -ℤ pos 2 *ℤ (l *ℤ s) → r ≡ squares_about l u
+  cost_told r e = ap nat_abs (e ∙ sym about_told)

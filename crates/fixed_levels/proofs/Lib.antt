@@ -5,4 +5,5 @@ pub mod Shows
 pub mod Holding
 pub mod Spreading
 pub mod Cutting
-pub mod Making
+pub mod Reducing
+pub mod Choosing

@@ -1,5 +1,8 @@
 -- The sums that the places keep.
-use Rattle.std.proofs.Common.{◌≡◌, ℕ, zero, suc, ◌+◌, ◌-◌, ◌<◌, ◌≤◌, true, ◌&&◌, eqb, List, [], ◌∷◌, ◌++◌, length, get_or, take, ℤ, pos, ◌+ℤ◌, sym, refl, ap, ◌∙◌, arith}
+use Rattle.std.proofs.Common.{◌≡◌, ℕ, zero, suc, ◌+◌, ◌-◌, ◌<◌, ◌≤◌, true, ◌&&◌, eqb, List, [], ◌∷◌, ◌++◌, length, get_or, take, ℤ, pos, ◌+ℤ◌, Option, Some, slice_get, refl, ap, ◌∙◌, subst, arith}
+use Rattle.std.specs.Option.{UnwrapsOrElse}
+use Rattle.std.proofs.lemmas.List.{length-take-le, get_or-take}
+use Rattle.std.proofs.lemmas.Option.{slice_get-get_or}
 use Rattle.std.proofs.lemmas.Int.{ints}
 use Rattle.std.proofs.lemmas.Bool.{and_parts, and_from, eqb-true, eq-eqb}
 use Rattle.fixed_levels.specs.declared.place.Place.{Place}
@@ -41,25 +44,25 @@ squares_from a b (p ∷ ps) (suc i) d h lt =
     let s = starts a b p ps h in
     squares_from p.sum p.squares ps i d s.rest (omega arith) ∙ omega (arith, s.squares)
 
--- before the first place
-pub sum_none : (h : List ℤ) (at : ℕ) → at ≡ 0 → pos 0 ≡ sum_of (take at h)
-unfolding sum_of
-sum_none h at e = ap (λ n. sum_of (take n h)) (sym e)
+-- what the last of the first places keeps, and zeros where there is none
+abbrev Keeps : List Place → ℕ → Place → Type 0
+Keeps ps at r = (r.sum ≡ sum_of (take at (readings_of ps))) × (r.squares ≡ squares_of (take at (readings_of ps)))
 
-pub squares_none : (h : List ℤ) (at : ℕ) → at ≡ 0 → 0 ≡ squares_of (take at h)
-unfolding squares_of
-squares_none h at e = ap (λ n. squares_of (take n h)) (sym e)
+abbrev Zeros : Place → Type 0
+Zeros r = (r.reading ≡ pos 0) × ((r.sum ≡ pos 0) × (r.squares ≡ 0))
 
-module _ (ps : List Place) (h : summed ps ≡ true) (at : ℕ) (d : Place) (some : 0 < at) (le : at ≤ length ps) where
-  pub sum_at : (get_or ps (at - 1) d).sum ≡ sum_of (take at (readings_of ps))
-  sum_at =
-      let e : suc (at - 1) ≡ at = omega arith in
-      sum_from (pos 0) 0 ps (at - 1) d h (omega arith) ∙ (omega (arith, ints) ∙ ap (λ n. sum_of (take n (readings_of ps))) e)
-
-  pub squares_at : (get_or ps (at - 1) d).squares ≡ squares_of (take at (readings_of ps))
-  squares_at =
-      let e : suc (at - 1) ≡ at = omega arith in
-      squares_from (pos 0) 0 ps (at - 1) d h (omega arith) ∙ (omega arith ∙ ap (λ n. squares_of (take n (readings_of ps))) e)
+pub last_keeps : (ps : List Place) (at : ℕ) (o : Option Place) (r : Place) → summed ps ≡ true → at ≤ length ps → o ≡ slice_get (take at ps) (length (take at ps) - 1) → UnwrapsOrElse o Zeros r → Keeps ps at r
+unfolding sum_of squares_of
+last_keeps ps zero o r h le e is = let z = subst (λ w. UnwrapsOrElse w Zeros r) e is in (z.1.0, z.1.1)
+last_keeps ps (suc n) o r h le e is =
+    let long : length (take (suc n) ps) ≡ suc n = length-take-le (suc n) ps le in
+    let lt : n < length (take (suc n) ps) = omega arith in
+    let last : length (take (suc n) ps) - 1 ≡ n = omega arith in
+    let there : o ≡ Some (get_or ps n r) = e ∙ (ap (slice_get (take (suc n) ps)) last ∙ (slice_get-get_or (take (suc n) ps) n r lt ∙ ap Some (get_or-take (suc n) ps n r (omega arith)))) in
+    let same : r ≡ get_or ps n r = subst (λ w. UnwrapsOrElse w Zeros r) there is in (
+      ap (λ p. p.sum) same ∙ (sum_from (pos 0) 0 ps n r h (omega arith) ∙ omega (arith, ints)),
+      ap (λ p. p.squares) same ∙ (squares_from (pos 0) 0 ps n r h (omega arith) ∙ omega arith),
+    )
 
 -- one place more
 push_from : (a : ℤ) (b : ℕ) (ps : List Place) (p : Place) → summed_from a b ps ≡ true → p.sum ≡ (a +ℤ sum_of (readings_of ps)) +ℤ p.reading → p.squares ≡ (b + squares_of (readings_of ps)) + square p.reading → summed_from a b (ps ++ (p ∷ [])) ≡ true
@@ -74,5 +77,5 @@ push_from a b (q ∷ qs) p h e f =
     let two = and_parts (eqb q.squares (b + square q.reading)) (summed_from q.sum q.squares qs) one.1 in
     and_from _ _ one.0 (and_from _ _ two.0 (push_from q.sum q.squares qs p two.1 (omega (arith, ints, s.sum)) (omega (arith, s.squares))))
 
-pub summed-push : (ps : List Place) (p : Place) → summed ps ≡ true → p.sum ≡ sum_of (readings_of ps) +ℤ p.reading → p.squares ≡ squares_of (readings_of ps) + square p.reading → summed (ps ++ (p ∷ [])) ≡ true
-summed-push ps p h e f = push_from (pos 0) 0 ps p h (omega (arith, ints)) (omega arith)
+pub summed_push : (ps : List Place) (p : Place) → summed ps ≡ true → p.sum ≡ sum_of (readings_of ps) +ℤ p.reading → p.squares ≡ squares_of (readings_of ps) + square p.reading → summed (ps ++ (p ∷ [])) ≡ true
+summed_push ps p h e f = push_from (pos 0) 0 ps p h (omega (arith, ints)) (omega arith)

@@ -1,8 +1,8 @@
 -- The charge with fixed levels shows the laws.
-use Rattle.std.proofs.Common.{◌≡◌, ℕ, suc, ◌+◌, ◌-◌, ◌<◌, ◌≤◌, true, false, cond, ◌&&◌, ltb, leb, List, [], ◌∷◌, length, get_or, ℤ, pos, ◌-ℤ◌, nat_abs, sym, refl, ap, ◌∙◌, arith}
+use Rattle.std.proofs.Common.{◌≡◌, ℕ, suc, ◌+◌, ◌<◌, ◌≤◌, true, cond, ◌&&◌, leb, List, [], ◌∷◌, length, get_or, ℤ, pos, ◌-ℤ◌, nat_abs, refl, ap, ◌∙◌, arith}
 use Rattle.std.proofs.lemmas.Nat.{mul-le}
 use Rattle.std.proofs.ByRecursion.{All-get_or}
-use Rattle.std.proofs.lemmas.Bool.{and_parts, leb-true, ltb-true, ltb-false, le-leb, lt-leb, cond-true, cond-false}
+use Rattle.std.proofs.lemmas.Bool.{and_parts, leb-true}
 use Rattle.amounts.specs.Kinds.{whole, whole_kind}
 use Rattle.amounts.specs.Lawful.{whole_laws}
 use Rattle.charges.specs.Levels.{LevelLaws, price_total, best_upto}
@@ -36,12 +36,12 @@ module _ (ls : List ℤ) (lawful : level_set_lawful ls ≡ true) where
   pub set-some : 1 ≤ length ls
   set-some = (set ls lawful).some
 
-  pub set_number : (i : ℕ) → i < length ls → number_reading (get_or ls i (pos 0)) ≡ true
-  set_number i lt = All-get_or (λ x. number_reading x ≡ true) ls i (pos 0) lt (all_from_pass number_reading ls (set ls lawful).numbers)
+  pub set_number : (i : ℕ) (d : ℤ) → i < length ls → number_reading (get_or ls i d) ≡ true
+  set_number i d lt = All-get_or (λ x. number_reading x ≡ true) ls i d lt (all_from_pass number_reading ls (set ls lawful).numbers)
 
   price-weight : (x : ℤ) (i : ℕ) → number_reading x ≡ true → i < length ls → squared_distance_lem x (get_or ls i (pos 0)) ≤ 4000000000000
   price-weight x i h lt =
-      let d = number_apart x (get_or ls i (pos 0)) h (set_number i lt) in
+      let d = number_apart x (get_or ls i (pos 0)) h (set_number i (pos 0) lt) in
       mul-le (nat_abs (x -ℤ get_or ls i (pos 0))) (nat_abs (x -ℤ get_or ls i (pos 0))) 2000000 2000000 d d
 
   pub level-laws : (c : ℕ) → LevelLaws whole_kind (fixed_rules ls c) (fixed_level ls) (fixed_levels ls)
@@ -61,26 +61,9 @@ module _ (ls : List ℤ) (lawful : level_set_lawful ls ≡ true) where
     weight = leveled-weight whole_laws (fixed_rules ls c) (fixed_level ls) (fixed_levels ls) (level-laws c);
   }
 
-best_more : (ls u : List ℤ) (n : ℕ) → best_upto whole_kind (fixed_levels ls) (suc n) u ≡ (let b = best_upto whole_kind (fixed_levels ls) n u in cond (leb (squares_about (get_or ls b (pos 0)) u) (squares_about (get_or ls (suc n) (pos 0)) u)) b (suc n))
+pub best_more : (ls u : List ℤ) (n : ℕ) → best_upto whole_kind (fixed_levels ls) (suc n) u ≡ (let b = best_upto whole_kind (fixed_levels ls) n u in cond (leb (squares_about (get_or ls b (pos 0)) u) (squares_about (get_or ls (suc n) (pos 0)) u)) b (suc n))
 unfolding best_upto
 best_more ls u n =
     let b = best_upto whole_kind (fixed_levels ls) n u in
     ap (λ v. cond (leb v.number (price_total whole_kind (fixed_levels ls) (suc n) u).number) b (suc n)) (total_is ls b u)
     ∙ ap (λ v. cond (leb (squares_about (get_or ls b (pos 0)) u) v.number) b (suc n)) (total_is ls (suc n) u)
-
--- one level more: b is the best of those before i
-module _ (ls u : List ℤ) (i b : ℕ) (some : 0 < i) (before : b ≡ best_upto whole_kind (fixed_levels ls) (i - 1) u) where
-  abbrev about : ℕ → ℕ
-  about j = squares_about (get_or ls j (pos 0)) u
-
-  best_next : best_upto whole_kind (fixed_levels ls) (i + 1 - 1) u ≡ cond (leb (about b) (about i)) b i
-  best_next =
-      let e : i + 1 - 1 ≡ suc (i - 1) = omega arith in
-      let f : suc (i - 1) ≡ i = omega arith in
-      ap (λ n. best_upto whole_kind (fixed_levels ls) n u) e ∙ (best_more ls u (i - 1) ∙ (ap (λ j. cond (leb (about j) (about (suc (i - 1)))) j (suc (i - 1))) (sym before) ∙ ap (λ j. cond (leb (about b) (about j)) b j) f))
-
-  pub best_takes : (c d : ℕ) → c ≡ about i → d ≡ about b → ltb c d ≡ true → i ≡ best_upto whole_kind (fixed_levels ls) (i + 1 - 1) u
-  best_takes c d e f h = sym (best_next ∙ cond-false _ b i (lt-leb _ _ (omega (arith, ltb-true c d h))))
-
-  pub best_keeps : (c d : ℕ) → c ≡ about i → d ≡ about b → ltb c d ≡ false → b ≡ best_upto whole_kind (fixed_levels ls) (i + 1 - 1) u
-  best_keeps c d e f h = sym (best_next ∙ cond-true _ b i (le-leb _ _ (omega (arith, ltb-false c d h))))

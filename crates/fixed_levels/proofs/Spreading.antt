@@ -5,6 +5,7 @@ use Rattle.std.proofs.lemmas.Nat.{mul-le}
 use Rattle.std.proofs.lemmas.Int.{ints, to_z-of_z, to_z_pos}
 use Rattle.readings.specs.Numbers.{number_reading}
 use Rattle.readings.proofs.Ranges.{number_size}
+use Rattle.fixed_levels.specs.declared.Totals.{Totals}
 use Rattle.fixed_levels.specs.Fixed.{square}
 use Rattle.fixed_levels.proofs.About.{number_square}
 use Rattle.fixed_levels.proofs.Products.{nat_abs_product}
@@ -35,25 +36,30 @@ cast_whole : (z : ℤ) (d : ℕ) → z ≡ pos d → SFits w64 z → T (non_neg 
 cast_whole z d e fit = let small : SFits w64 (pos d) = subst (SFits w64) e fit in subst (λ y. T (non_neg y) × Fits w64 (nat_abs y)) (sym e) (tt, search rules)
 
 -- n readings with the sum s and the squares q, the level l, and its square w as it was worked out
-pub record Given (n : ℕ) (s : ℤ) (q : ℕ) (l : ℤ) (w : ℕ) : Type 0 where
-  pub few : n ≤ 1024
-  pub size : nat_abs s ≤ n * 1000000
-  pub small : q ≤ n * 1000000000000
-  pub number : number_reading l ≡ true
-  pub fits_sum : SFits w64 s
-  pub fits_level : SFits w64 l
-  pub squared : w ≡ square (back l)
-  pub whole : (pos 2 *ℤ (l *ℤ s)) ≤ℤ pos (q + n * square l)
+module _ (t : Totals) (l : ℤ) (number : number_reading l ≡ true) (whole : (pos 2 *ℤ (l *ℤ t.sum)) ≤ℤ pos (t.squares + t.count * square l)) {w : ℕ} (squared : w ≡ square (back l)) where
+  abbrev n : ℕ
+  n = t.count
 
-module _ {n : ℕ} {s : ℤ} {q : ℕ} {l : ℤ} {w : ℕ} (g : Given n s q l w) where
+  abbrev s : ℤ
+  s = t.sum
+
+  abbrev q : ℕ
+  q = t.squares
+
+  level_fits : SFits w64 l
+  level_fits = let h = number_size l number in small_fits l (omega arith)
+
+  sum_fits : SFits w64 s
+  sum_fits = small_fits s (omega (arith, t.sum_small, t.few))
+
   square-back : w ≡ square l
-  square-back = g.squared ∙ ap square (to_z-of_z w64 l g.fits_level)
+  square-back = squared ∙ ap square (to_z-of_z w64 l level_fits)
 
   counted : n * w ≤ 1024 * 1000000000000
-  counted = mul-le n w 1024 1000000000000 g.few (omega (arith, square-back, number_square l g.number))
+  counted = mul-le n w 1024 1000000000000 t.few (omega (arith, square-back, number_square l number))
 
   above : q + n * w ≤ 2048000000000000
-  above = omega (arith, counted, g.small, g.few)
+  above = omega (arith, counted, t.squares_small, t.few)
 
   pub count_fits : Fits w64 (n * w)
   count_fits = omega (arith, counted)
@@ -65,10 +71,10 @@ module _ {n : ℕ} {s : ℤ} {q : ℕ} {l : ℤ} {w : ℕ} (g : Given n s q l w)
   above_cast = let h = above in omega (arith, ints)
 
   product_small : nat_abs (l *ℤ s) ≤ 1024000000000000
-  product_small = omega (arith, nat_abs_product l s, mul-le (nat_abs l) (nat_abs s) 1000000 1024000000 (number_size l g.number) (omega (arith, g.size, g.few)))
+  product_small = omega (arith, nat_abs_product l s, mul-le (nat_abs l) (nat_abs s) 1000000 1024000000 (number_size l number) (omega (arith, t.sum_small, t.few)))
 
   product_is : back l *ℤ back s ≡ l *ℤ s
-  product_is = same_product (to_z-of_z w64 l g.fits_level) (to_z-of_z w64 s g.fits_sum)
+  product_is = same_product (to_z-of_z w64 l level_fits) (to_z-of_z w64 s sum_fits)
 
   pub product_fits : SFits w64 (back l *ℤ back s)
   product_fits = subst (SFits w64) (sym product_is) (small_fits (l *ℤ s) product_small)
@@ -93,7 +99,7 @@ module _ {n : ℕ} {s : ℤ} {q : ℕ} {l : ℤ} {w : ℕ} (g : Given n s q l w)
   result_back = to_z-of_z w64 _ less_fits ∙ (less_is ∙ ap (λ k. pos (q + n * k) -ℤ pos 2 *ℤ (l *ℤ s)) square-back)
 
   whole_result : result ≡ pos (nat_abs (pos (q + n * square l) -ℤ pos 2 *ℤ (l *ℤ s)))
-  whole_result = result_back ∙ sym (from_zero (q + n * square l) (pos 2 *ℤ (l *ℤ s)) g.whole)
+  whole_result = result_back ∙ sym (from_zero (q + n * square l) (pos 2 *ℤ (l *ℤ s)) whole)
 
   result_fits : SFits w64 result
   result_fits = subst (SFits w64) (sym (to_z-of_z w64 _ less_fits)) less_fits
@@ -102,4 +108,4 @@ module _ {n : ℕ} {s : ℤ} {q : ℕ} {l : ℤ} {w : ℕ} (g : Given n s q l w)
   result_cast = cast_whole result _ whole_result result_fits
 
   pub result_is : pos (nat_abs result) ≡ pos (q + n * square l) -ℤ pos 2 *ℤ (l *ℤ s)
-  result_is = ap (λ z. pos (nat_abs z)) result_back ∙ from_zero (q + n * square l) (pos 2 *ℤ (l *ℤ s)) g.whole
+  result_is = ap (λ z. pos (nat_abs z)) result_back ∙ from_zero (q + n * square l) (pos 2 *ℤ (l *ℤ s)) whole

@@ -2,7 +2,7 @@
 
 // A reading, and the sums of the readings and of their squares up to and including it. What a place holds before it is
 // lent does not matter.
-#[derive(Clone, Copy, PartialEq, Eq, Debug)]
+#[derive(Clone, Copy, Default, PartialEq, Eq, Debug)]
 pub struct Place {
     pub reading: i64,
     pub sum: i64,

@@ -4,8 +4,6 @@
 ghost use Rattle.known_holes.specs.Table.{Known};
 
 // What is found of every hole of the table is what is expected.
-pub fn known_holes_stand() -> u8
+pub fn known_holes_stand()
     ensures { Known }
-{
-    0
-}
+{}

@@ -10,19 +10,24 @@ pub enum Complaint {
     Refused(Refusal),
 }
 
+impl From<Refusal> for Complaint {
+    fn from(refusal: Refusal) -> Complaint {
+        Complaint::Refused(refusal)
+    }
+}
+
 impl fmt::Display for Complaint {
     fn fmt<W: fmt::Write>(&self, f: &mut fmt::Formatter<W>) -> fmt::Result {
         match self {
             Complaint::NotANumber => f.write_str("not a number"),
             Complaint::NoReading => f.write_str("no reading"),
             Complaint::Refused(refusal) => {
-                let number = refusal.number();
                 let why = match refusal {
                     Refusal::Full => "too many readings",
                     Refusal::Unlawful => "the reading is not from -1000000 to 1000000",
                     _ => "not taken",
                 };
-                write!(f, "refused ({number}): {why}")
+                write!(f, "refused ({}): {why}", refusal.number())
             }
         }
     }
@@ -37,8 +42,7 @@ pub struct Fault {
 
 impl fmt::Display for Fault {
     fn fmt<W: fmt::Write>(&self, f: &mut fmt::Formatter<W>) -> fmt::Result {
-        let line = self.line;
-        let complaint = self.complaint;
+        let Fault { line, complaint } = self;
         write!(f, "line {line}: {complaint}")
     }
 }

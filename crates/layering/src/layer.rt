@@ -17,10 +17,12 @@ impl fmt::Display for Layer {
     ghost output = { λ l. Some (layer_line l) };
 
     fn fmt<W: fmt::Write>(&self, f: &mut fmt::Formatter<W>) -> fmt::Result {
-        let first = self.first;
-        let last = self.last;
-        let level = self.level;
-        let fee = self.fee;
+        let Layer {
+            first,
+            last,
+            level,
+            fee,
+        } = self;
         write!(f, "{first} {last} {level} {fee}")
     }
 }

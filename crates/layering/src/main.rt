@@ -18,7 +18,7 @@ mod layer;
 
 // The readings held, as one layer.
 fn as_one_layer<C: Charge<Cost = Whole>>(charge: &C) -> Result<Layer, Refusal>
-    ensures value { result ≡ whole_hole (C.Charge.rules charge.now) (C.Charge.leveling charge.now) (C.Charge.held charge.now) }
+    ensures value { result ≡ whole_hole (C.rules charge.now) (C.leveling charge.now) (C.held charge.now) }
 {
     let last = charge.count();
     let fee = charge.fee(0, last)?;
@@ -33,50 +33,38 @@ fn as_one_layer<C: Charge<Cost = Whole>>(charge: &C) -> Result<Layer, Refusal>
 
 // Takes the number on one line, or says what is wrong with it and changes nothing.
 fn take_line<C: Charge>(charge: &mut C, line: &str) -> Result<(), Complaint>
-    ensures cases { MatchResult result (λ _. (x : ℤ) × (C.Charge.held charge.new ≡ C.Charge.held charge.old ++ (x ∷ []))) (λ _. charge.new ≡ charge.old) }
-    ensures rules { C.Charge.rules charge.new ≡ C.Charge.rules charge.old }
-    ensures leveling { C.Charge.leveling charge.new ≡ C.Charge.leveling charge.old }
+    ensures cases { MatchResult result (λ _. (x : ℤ) × (C.held charge.new ≡ C.held charge.old ++ (x ∷ []))) (λ _. charge.new ≡ charge.old) }
+    ensures rules { C.rules charge.new ≡ C.rules charge.old }
+    ensures leveling { C.leveling charge.new ≡ C.leveling charge.old }
 {
-    let Ok(reading) = line.parse::<i64>() else {
-        return Err(Complaint::NotANumber);
-    };
-    match charge.take(reading) {
-        Ok(()) => Ok(()),
-        Err(refusal) => Err(Complaint::Refused(refusal)),
-    }
+    let reading = line.parse().map_err(|_| Complaint::NotANumber)?;
+    charge.take(reading)?;
+    Ok(())
 }
 
 // Takes the numbers of a text, one a line, up to the first line at fault.
 fn take_lines<C: Charge>(charge: &mut C, text: &str) -> Result<(), Fault>
-    ensures rules { C.Charge.rules charge.new ≡ C.Charge.rules charge.old }
-    ensures leveling { C.Charge.leveling charge.new ≡ C.Charge.leveling charge.old }
+    ensures rules { C.rules charge.new ≡ C.rules charge.old }
+    ensures leveling { C.leveling charge.new ≡ C.leveling charge.old }
 {
     for (i, line) in text.lines().enumerate() {
-        match take_line(charge, line) {
-            Ok(()) => {}
-            Err(complaint) => {
-                return Err(Fault {
-                    line: i.saturating_add(1),
-                    complaint,
-                });
-            }
-        }
+        take_line(charge, line).map_err(|complaint| Fault {
+            line: i.saturating_add(1),
+            complaint,
+        })?;
     }
     Ok(())
 }
 
 // The layer of a text of numbers, or its first fault.
 fn layer_of<C: Charge<Cost = Whole>>(charge: &mut C, text: &str) -> Result<Layer, Fault>
-    ensures layer { IfOk result (λ l. Ok l ≡ whole_hole (C.Charge.rules charge.old) (C.Charge.leveling charge.old) (C.Charge.held charge.new)) }
+    ensures layer { IfOk result (λ l. Ok l ≡ whole_hole (C.rules charge.old) (C.leveling charge.old) (C.held charge.new)) }
 {
     take_lines(charge, text)?;
-    match as_one_layer(charge) {
-        Ok(layer) => Ok(layer),
-        Err(_) => Err(Fault {
-            line: 1,
-            complaint: Complaint::NoReading,
-        }),
-    }
+    as_one_layer(charge).map_err(|_| Fault {
+        line: 1,
+        complaint: Complaint::NoReading,
+    })
 }
 
 // Reads the input and prints its layer.

@@ -1,7 +1,7 @@
 // Level sets: the levels that a charge with fixed levels chooses from.
 #![tactic(auto)]
 
-ghost use Rattle.std.specs.Prelude.{◌≡◌, ℕ, ◌≤◌, true, [], ◌∷◌, length, take, pos, int_lt};
+ghost use Rattle.std.specs.Prelude.{◌≡◌, ◌≤◌, true, [], ◌∷◌, length, take, pos, int_lt};
 ghost use Rattle.std.specs.Result.{result_map_both};
 ghost use Rattle.readings.specs.Numbers.{all_numbers};
 ghost use Rattle.level_sets.specs.LevelSets.{rising, level_set_lawful, level_set_told};
@@ -9,7 +9,8 @@ ghost use Rattle.level_sets.specs.LevelSets.{rising, level_set_lawful, level_set
 use charges::Refusal;
 use readings::is_number;
 
-// 1 to 32 strictly rising levels, each a number reading. They are the first `len` of the array.
+// 1 to 32 strictly rising levels, each a number reading. They are the first `len` of the array, which is no Vec: a charge asks
+// for no memory.
 #[derive(Clone, Copy)]
 pub struct LevelSet {
     levels: [i64; 32],
@@ -23,8 +24,7 @@ impl LevelSet {
     pub fn new(levels: &[i64]) -> Result<LevelSet, Refusal>
         ensures value { result_map_both (λ s. take s.len s.levels) (λ e. e) result ≡ level_set_told levels.now }
     {
-        let len = levels.len();
-        if len < 1 || len > 32 {
+        if !(1..=32).contains(&levels.len()) {
             return Err(Refusal::LevelSet);
         }
         if !all_rise(levels) || !are_numbers(levels) {
@@ -32,7 +32,7 @@ impl LevelSet {
         }
         Ok(LevelSet {
             levels: array_of(levels),
-            len,
+            len: levels.len(),
         })
     }
 
@@ -56,8 +56,8 @@ impl LevelSet {
 }
 
 // Whether a level is above the one before it.
-fn rises(before: i64, level: i64) -> bool
-    ensures value { result ≡ int_lt before level }
+fn rises(before: &i64, level: &i64) -> bool
+    ensures value { result ≡ int_lt before.now level.now }
 {
     before < level
 }
@@ -66,24 +66,14 @@ fn rises(before: i64, level: i64) -> bool
 fn all_rise(levels: &[i64]) -> bool
     ensures value { result ≡ rising levels.now }
 {
-    for i in 1..levels.len() {
-        if !rises(levels[i - 1], levels[i]) {
-            return false;
-        }
-    }
-    true
+    levels.is_sorted_by(rises)
 }
 
 // Whether each level is a number reading.
 fn are_numbers(levels: &[i64]) -> bool
     ensures value { result ≡ all_numbers levels.now }
 {
-    for level in levels {
-        if !is_number(*level) {
-            return false;
-        }
-    }
-    true
+    levels.iter().all(|level| is_number(*level))
 }
 
 // The levels at the front of an array.

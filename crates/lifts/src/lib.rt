@@ -1,10 +1,8 @@
 // The lift: any charge in whole amounts as one in pairs, a fee or price f as (f, 0). It alters nothing else.
 #![tactic(auto)]
 
-ghost use Rattle.std.specs.Prelude.{◌≡◌, ℕ};
-ghost use Rattle.amounts.specs.Kinds.{pair_kind};
-ghost use Rattle.charges.specs.Levels.{LevelLaws};
-ghost use Rattle.lifts.specs.Lifting.{lifted, lifted_penalty, lifted_rules, lifted_levels};
+ghost use Rattle.std.specs.Prelude.{◌≡◌};
+ghost use Rattle.lifts.specs.Lifting.{lifted_penalty, lifted_rules, lifted_levels};
 
 use amounts::{Pair, Whole};
 use charges::levels::LevelCharge;
@@ -14,16 +12,6 @@ use charges::{Charge, Refusal};
 #[derive(Drop)]
 pub struct Lift<C> {
     pub inner: C,
-}
-
-// A whole amount as a pair.
-fn as_pair(fee: Whole) -> Pair
-    ensures value { result ≡ lifted fee }
-{
-    Pair {
-        cost: fee.number,
-        layers: 0,
-    }
 }
 
 // The penalty of a lifted charge: each layer counts.
@@ -36,25 +24,16 @@ pub fn lift_penalty(penalty: Whole) -> Pair
     }
 }
 
-// How many levels the charge below offers, and the laws of levels lifted.
-fn levels_below<C: LevelCharge + Charge<Cost = Whole>>(inner: &C) -> usize
-    ensures value { result ≡ (C.LevelCharge.levels inner.now).offered }
-    ensures laws { LevelLaws pair_kind (lifted_rules (C.Charge.rules inner.now)) (C.Charge.leveling inner.now) (lifted_levels (C.LevelCharge.levels inner.now)) }
-    ensures steady { (later : C) → C.Charge.alike inner.now later → lifted_levels (C.LevelCharge.levels later) ≡ lifted_levels (C.LevelCharge.levels inner.now) }
-{
-    inner.count_levels()
-}
-
 impl<C: Charge<Cost = Whole>> Charge for Lift<C> {
     type Cost = Pair;
 
-    ghost rules = { λ c. lifted_rules (C.Charge.rules c.inner) };
+    ghost rules = { λ c. lifted_rules (C.rules c.inner) };
 
-    ghost leveling = { λ c. C.Charge.leveling c.inner };
+    ghost leveling = { λ c. C.leveling c.inner };
 
-    ghost held = { λ c. C.Charge.held c.inner };
+    ghost held = { λ c. C.held c.inner };
 
-    ghost alike = { λ c d. C.Charge.alike c.inner d.inner };
+    ghost alike = { λ c d. C.alike c.inner d.inner };
 
     fn take(&mut self, reading: i64) -> Result<(), Refusal> {
         self.inner.take(reading)
@@ -62,7 +41,7 @@ impl<C: Charge<Cost = Whole>> Charge for Lift<C> {
 
     fn fee(&self, s: usize, t: usize) -> Result<Pair, Refusal> {
         let fee = self.inner.fee(s, t)?;
-        Ok(as_pair(fee))
+        Ok(Pair::from(fee))
     }
 
     fn level(&self, s: usize, t: usize) -> Result<i64, Refusal> {
@@ -87,14 +66,14 @@ impl<C: Charge<Cost = Whole>> Charge for Lift<C> {
 }
 
 impl<C: LevelCharge + Charge<Cost = Whole>> LevelCharge for Lift<C> {
-    ghost levels = { λ c. lifted_levels (C.LevelCharge.levels c.inner) };
+    ghost levels = { λ c. lifted_levels (C.levels c.inner) };
 
     fn count_levels(&self) -> usize {
-        levels_below(&self.inner)
+        self.inner.count_levels()
     }
 
     fn price(&self, place: usize, level: usize) -> Result<Pair, Refusal> {
         let price = self.inner.price(place, level)?;
-        Ok(as_pair(price))
+        Ok(Pair::from(price))
     }
 }

@@ -1,6 +1,6 @@
 -- The ranked readings: the same readings as those of the hole, in rising order, from which the hole is read back.
-use Rattle.std.proofs.Common.{◌≡◌, ℕ, zero, suc, ◌+◌, ◌<◌, ◌≤◌, Bool, true, false, cond, ◌&&◌, eqb, List, [], ◌∷◌, ◌++◌, map, length, take, drop, ℤ, ◌≤ℤ◌, sum_by, filter, sym, refl, ap, ◌∙◌, subst, ⊎_elim, append_assoc, append-nil, one-add, arith}
-use lib.Signed.{le_z}
+use Rattle.std.proofs.Common.{◌≡◌, ℕ, zero, suc, ◌+◌, ◌<◌, ◌≤◌, Bool, true, false, cond, ◌&&◌, eqb, List, [], ◌∷◌, ◌++◌, map, length, take, drop, ℤ, ◌≤ℤ◌, sum_by, filter, sym, refl, ap, ◌∙◌, subst, T, ⊎_elim, append_assoc, append-nil, one-add, arith}
+use lib.Signed.{le_z, le_z_yes}
 use Rattle.std.specs.List.{insert, AllByRecursion}
 use Rattle.std.proofs.lemmas.List.Edits.{length-insert}
 use Rattle.std.proofs.ByRecursion.{All-append, All-take, All-drop, All-weaker, All-map, all_kept_by}
@@ -134,7 +134,7 @@ readings ps = map (λ p. p.reading) ps
 all_readings : (P : ℤ → Type 0) (ps : List Place) → AllByRecursion (λ p. P p.reading) ps → AllByRecursion P (readings ps)
 all_readings P ps a = All-map P (λ p. p.reading) ps a
 
-readings_all : (P : ℤ → Type 0) (ps : List Place) → AllByRecursion P (readings ps) → AllByRecursion (λ p. P p.reading) ps
+pub readings_all : (P : ℤ → Type 0) (ps : List Place) → AllByRecursion P (readings ps) → AllByRecursion (λ p. P p.reading) ps
 readings_all P [] a = tt
 readings_all P (p ∷ ps) a = (a.0, readings_all P ps a.1)
 
@@ -150,9 +150,6 @@ le_chain : (a b : ℤ) (ys : List ℤ) → a ≤ℤ b → AllByRecursion (λ y. 
 le_chain a b [] h l = tt
 le_chain a b (y ∷ ys) h l = (omega (arith, ints, l.0), le_chain a b ys h l.1)
 
-int_le_le : (a b : ℤ) → le_z a b ≡ true → a ≤ℤ b
-int_le_le a b h = grind (arith, ints)
-
 int_le_gt : (a b : ℤ) → le_z a b ≡ false → b ≤ℤ a
 int_le_gt a b h = grind (arith, ints)
 
@@ -164,7 +161,7 @@ rising_with p (q ∷ qs) r =
     ⊎_elim
     (λ e. subst (λ l. Rising (readings l)) (sym (with_behind_at b n p q qs e)) (
       all_readings (λ y. q.reading ≤ℤ y) (ranked_with p qs)
-          (all_ranked_with (λ x. q.reading ≤ℤ x.reading) p qs (int_le_le _ _ e) (readings_all (λ y. q.reading ≤ℤ y) qs r.0)),
+          (all_ranked_with (λ x. q.reading ≤ℤ x.reading) p qs (le_z_yes (subst T (sym e) tt)) (readings_all (λ y. q.reading ≤ℤ y) qs r.0)),
       rising_with p qs r.1,
     ))
     (λ e. let le = int_le_gt _ _ e in subst (λ l. Rising (readings l)) (sym (with_before_at b n p q qs e)) ((le, le_chain p.reading q.reading (readings qs) le r.0), r))

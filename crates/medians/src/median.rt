@@ -1,114 +1,115 @@
 // The median charge over lent memory, one place for each reading.
-ghost use Rattle.std.specs.Prelude.{◌≡◌, ℕ, ◌<◌, ◌≤◌, true, [], length, take, drop, OnOk};
-ghost use Rattle.charges.specs.Told.{take_told};
+ghost use Rattle.std.specs.Prelude.{◌≡◌, ◌<◌, ◌≤◌, true, [], ◌∷◌, ◌++◌, length, take, drop, Ok};
+ghost use Rattle.charges.specs.Rules.{segment};
 ghost use Rattle.readings.specs.Numbers.{number_reading, all_numbers};
 ghost use Rattle.readings.specs.Makings.{making_told, made_capacity};
-ghost use Rattle.medians.specs.Medians.{median, median_rules};
+ghost use Rattle.medians.specs.Medians.{median, median_fee, median_rules};
 ghost use Rattle.medians.specs.Ranks.{held_in, in_rank};
 
 use crate::place::Place;
-use crate::{Table, show_laws};
+use crate::{balance_of, rank_of, reading_after};
 use amounts::Whole;
 use charges::{Charge, Refusal};
-use readings::{is_number, test_making};
+use lent_lists::LentList;
+use readings::{is_number, test_segment, test_taking};
 
-// The table keeps the readings held in rising order, so that a fee or a level is one pass over them.
+// The readings held, in rising order, so that a fee or a level is one pass over them.
 #[derive(Drop)]
 pub struct Median<'a> {
-    table: Table<'a>,
-    count: usize,
-    capacity: usize,
-    ghost few: { count ≤ capacity },
-    ghost small: { capacity ≤ 1024 },
-    ghost room: { capacity ≤ length table.places.now },
-    ghost order: { in_rank (take count table.places.now) ≡ true },
-    ghost numbers: { all_numbers (held_in table.places.now count) ≡ true },
+    list: LentList<'a, Place>,
+    ghost order: { in_rank (take list.len list.places.now) ≡ true },
+    ghost numbers: { all_numbers (held_in list.places.now list.len) ≡ true },
 }
 
 impl<'a> Median<'a> {
-    // Whether a median charge of this capacity can be made over the table.
+    // Whether a median charge of this capacity can be made over the table: what the list says of it, by the charge's own name.
     pub fn test(table: &[Place], capacity: usize) -> Result<(), Refusal>
         ensures value { result ≡ making_told capacity capacity (length table.now) }
     {
-        test_making(capacity, capacity, table.len())
+        LentList::test(table, capacity)
     }
 
     // A charge that holds no reading; from what the test refuses, one of capacity 0. No place is written.
+    #[tactic(auto, unfolding(crate::specs::Ranks::ranked_from, crate::specs::Ranks::readings_upto))]
     pub fn new(table: &'a mut [Place], capacity: usize) -> Median<'a>
-        ensures capacity { result.capacity ≡ made_capacity (making_told capacity capacity (length table.old)) capacity }
-        ensures held { held_in result.table.places.now result.count ≡ [] }
-        ensures table { result.table.places.now ≡ table.old }
-        ensures lender { result.table.places.ghost_name ≡ table.entry.ghost_name }
+        ensures capacity { result.list.capacity ≡ made_capacity (making_told capacity capacity (length table.old)) capacity }
+        ensures held { held_in result.list.places.now result.list.len ≡ [] }
+        ensures table { result.list.places.now ≡ table.old }
+        ensures lender { result.list.places.ghost_name ≡ table.entry.ghost_name }
     {
-        let capacity = match Median::test(table, capacity) {
-            Ok(()) => capacity,
-            Err(_) => 0,
-        };
         Median {
-            table: Table::new(table),
-            count: 0,
-            capacity,
+            list: LentList::new(table, capacity),
         }
     }
 
-    // What take answers, before it changes anything.
-    fn admits(&self, reading: i64) -> Result<(), Refusal>
-        ensures value { result ≡ take_told (median_rules self.now.capacity) (held_in self.now.table.places.now self.now.count) reading }
-        ensures free { OnOk result ((self.now.count < self.now.capacity) × (number_reading reading ≡ true)) }
+    // Puts in one reading more, the last one of the hole, where it stands in the rising order.
+    #[tactic(auto, using(crate::proofs::Charged::put_order, crate::proofs::Charged::put_numbers))]
+    fn rank(&mut self, reading: i64) -> Result<(), Refusal>
+        requires room { self.old.list.len < self.old.list.capacity }
+        requires number { number_reading reading ≡ true }
+        ensures answer { result ≡ Ok tt }
+        ensures capacity { self.new.list.capacity ≡ self.old.list.capacity }
+        ensures held { held_in self.new.list.places.now self.new.list.len ≡ held_in self.old.list.places.now self.old.list.len ++ (reading ∷ []) }
+        ensures beyond { drop self.new.list.len self.new.list.places.now ≡ drop self.new.list.len self.old.list.places.now }
+        ensures lender { self.new.list.places.ghost_name ≡ self.old.list.places.ghost_name }
     {
-        if self.table.len(self.count) >= self.capacity {
-            return Err(Refusal::Full);
-        }
-        if !is_number(reading) {
-            return Err(Refusal::Unlawful);
-        }
-        Ok(())
+        let at = self.list.len();
+        let rank = rank_of(self.list.as_slice(), reading);
+        self.list.insert(rank, Place { reading, at })
+    }
+
+    // The sum of the upper half of the readings of the segment (s, t) less that of the lower half: this is the sum of the
+    // distances to the median.
+    #[tactic(auto, using(crate::proofs::Charged::length_held, crate::proofs::Charged::numbers_held, crate::proofs::Charged::fee_is))]
+    fn spread(&self, s: usize, t: usize) -> u64
+        requires some { s < t }
+        requires within { t ≤ length (held_in self.now.list.places.now self.now.list.len) }
+        ensures fee { result ≡ (median_fee (segment (held_in self.now.list.places.now self.now.list.len) s t)).number }
+    {
+        let half = (t - s) / 2;
+        balance_of(self.list.as_slice(), s, t, half, t - s - half).unsigned_abs()
     }
 }
 
+#[tactic(auto, using(crate::proofs::Charged::length_held))]
 impl<'a> Charge for Median<'a> {
     type Cost = Whole;
 
-    ghost rules = { λ c. median_rules c.capacity };
+    ghost rules = { λ c. median_rules c.list.capacity };
 
     ghost leveling = { λ c. median };
 
-    ghost held = { λ c. held_in c.table.places.now c.count };
+    ghost held = { λ c. held_in c.list.places.now c.list.len };
 
     // places past those that hold readings are not written, and the memory is the one that was lent
-    ghost alike = { λ c d. (drop d.count d.table.places.now ≡ drop d.count c.table.places.now) × (d.table.places.ghost_name ≡ c.table.places.ghost_name) };
+    ghost alike = { λ c d. (drop d.list.len d.list.places.now ≡ drop d.list.len c.list.places.now) × (d.list.places.ghost_name ≡ c.list.places.ghost_name) };
 
     fn take(&mut self, reading: i64) -> Result<(), Refusal> {
-        self.admits(reading)?;
-        self.table.add(self.count, reading);
-        self.count += 1;
-        Ok(())
+        test_taking(self.list.len(), self.list.capacity(), is_number(reading))?;
+        self.rank(reading)
     }
 
     fn fee(&self, s: usize, t: usize) -> Result<Whole, Refusal> {
-        if s >= t || t > self.table.len(self.count) {
-            return Err(Refusal::Outside);
-        }
+        test_segment(s, t, self.list.len())?;
         Ok(Whole {
-            number: self.table.spread(self.count, s, t),
+            number: self.spread(s, t),
         })
     }
 
+    #[tactic(auto, using(crate::proofs::Charged::length_held, crate::proofs::Charged::level_is))]
     fn level(&self, s: usize, t: usize) -> Result<i64, Refusal> {
-        if s >= t || t > self.table.len(self.count) {
-            return Err(Refusal::Outside);
-        }
+        test_segment(s, t, self.list.len())?;
+        // the median has half of the others before it, or one less
         let before = (t - s - 1) / 2;
-        Ok(self.table.reading_after(self.count, s, t, before))
+        reading_after(self.list.as_slice(), s, t, before).ok_or(Refusal::Outside)
     }
 
     fn count(&self) -> usize {
-        show_laws(self.capacity);
-        self.table.len(self.count) // how many are held
+        self.list.len() // how many are held
     }
 
     fn capacity(&self) -> usize {
-        self.capacity // how many can be
+        self.list.capacity() // how many can be
     }
 
     fn reading_bound(&self) -> u64 {

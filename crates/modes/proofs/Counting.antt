@@ -1,15 +1,10 @@
 -- The steps of the pass over a segment.
-use Rattle.std.proofs.Common.{◌≡◌, ℕ, zero, suc, ◌+◌, ◌-◌, ◌<◌, ◌≤◌, true, false, cond, not, leb, List, length, get_or, take, set, ℤ, pos, nat_abs, sym, refl, ap, ◌∙◌, ⊎_elim, arith, length-take}
+use Rattle.std.proofs.Common.{◌≡◌, ℕ, zero, suc, ◌+◌, ◌-◌, ◌<◌, ◌≤◌, true, false, cond, not, leb, List, length, get_or, take, set, ℤ, pos, sym, refl, ap, ◌∙◌, ⊎_elim, arith}
 use Rattle.std.proofs.lemmas.List.{get_or-set_same, get_or-set_other}
-use Rattle.std.proofs.lemmas.Int.{ints}
-use Rattle.std.proofs.lemmas.List.Sums.{sum_by_more, count_by-le-length}
+use Rattle.std.proofs.lemmas.List.Sums.{sum_by_more}
 use Rattle.std.proofs.lemmas.Bool.{cases_eq, cond_both, cond-true, cond-false, not-true, not-false}
 use Rattle.std.proofs.lemmas.Bool.Decides.{nat_tests}
-use Rattle.readings.specs.Symbols.{symbol_reading}
 use Rattle.modes.specs.Modes.{is, occurrences, first_most}
-
-pub symbol_is : (x : ℤ) → symbol_reading x ≡ true → (x ≡ pos (nat_abs x)) × (nat_abs x < 32)
-symbol_is x h = (grind (arith, ints), grind (arith, ints))
 
 same_symbol : (n j : ℕ) → n ≡ j → ◌≡◌ {A = ℕ} (cond (is (pos n) j) 1 0) 1
 same_symbol n j e = grind (arith, nat_tests)
@@ -27,26 +22,28 @@ count_more counts readings i n lt x fits was j few =
     (λ ne. get_or-set_other counts n j (get_or counts n 0 + 1) 0 ne ∙ omega (arith, was j few, other_symbol n j ne))
     (cases_eq j n)
 
--- how many came by is no more than there are
-pub few_counted : (readings : List ℤ) (i j : ℕ) → occurrences (take i readings) j ≤ i
-few_counted readings i j = omega (arith, count_by-le-length (λ x. is x j) (take i readings), length-take i readings)
-
 first_more_at : (f : ℕ → ℕ) (m b : ℕ) → b ≡ first_most f m → cond (leb (f (suc m)) (f b)) b (suc m) ≡ first_most f (suc m)
 unfolding first_most
 first_more_at f m b e = ap (λ n. cond (leb (f (suc m)) (f n)) n (suc m)) e
 
-module _ (f : ℕ → ℕ) (i b : ℕ) (some : 0 < i) (was : b ≡ first_most f (i - 1)) where
-  first_more : cond (leb (f i) (f b)) b i ≡ first_most f (i + 1 - 1)
-  first_more =
-      let e : i ≡ suc (i - 1) = omega arith in
-      let g : suc (i - 1) ≡ i + 1 - 1 = omega arith in
-      ap (λ n. cond (leb (f n) (f b)) b n) e ∙ (first_more_at f (i - 1) b was ∙ ap (first_most f) g)
+-- the first symbol is the best of itself
+first_alone : (f : ℕ → ℕ) (b : ℕ) → b ≡ first_most f 0 → cond (leb (f 0) (f b)) b 0 ≡ first_most f 0
+unfolding first_most
+first_alone f b e = cond_both (leb (f 0) (f b)) b 0 (λ m. m ≡ 0) (λ _. e) (λ _. refl)
 
+first_more : (f : ℕ → ℕ) (i b : ℕ) → b ≡ first_most f (i - 1) → cond (leb (f i) (f b)) b i ≡ first_most f (i + 1 - 1)
+first_more f zero b was = first_alone f b was
+first_more f (suc i) b was =
+    let e : suc i - 1 ≡ i = omega arith in
+    let g : suc i ≡ suc i + 1 - 1 = omega arith in
+    first_more_at f i b (was ∙ ap (first_most f) e) ∙ ap (first_most f) g
+
+module _ (f : ℕ → ℕ) (i b : ℕ) (was : b ≡ first_most f (i - 1)) where
   pub first_keeps : not (leb (f i) (f b)) ≡ false → b ≡ first_most f (i + 1 - 1)
-  first_keeps h = let t : leb (f i) (f b) ≡ true = not-false _ h in sym (cond-true _ b i t) ∙ first_more
+  first_keeps h = let t : leb (f i) (f b) ≡ true = not-false _ h in sym (cond-true _ b i t) ∙ first_more f i b was
 
   pub first_moves : not (leb (f i) (f b)) ≡ true → i ≡ first_most f (i + 1 - 1)
-  first_moves h = let t : leb (f i) (f b) ≡ false = not-true _ h in sym (cond-false _ b i t) ∙ first_more
+  first_moves h = let t : leb (f i) (f b) ≡ false = not-true _ h in sym (cond-false _ b i t) ∙ first_more f i b was
 
 first_within : (f : ℕ → ℕ) (n : ℕ) → first_most f n ≤ n
 unfolding first_most

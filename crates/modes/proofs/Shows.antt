@@ -57,8 +57,8 @@ mode_level_laws c = record {
   level = λ u p. ap pos (sym (best-is u 31));
 }
 
-pub mode-laws : (c : ℕ) → c ≤ 1024 → ChargeLaws whole_kind (mode_rules c)
-mode-laws c few = record {
+pub mode_laws : (c : ℕ) → c ≤ 1024 → ChargeLaws whole_kind (mode_rules c)
+mode_laws c few = record {
   capacity = few;
   bound = omega arith;
   splitting = λ u v p q short. leveled-splits whole_laws (mode_rules c) mode mode_levels (mode_level_laws c) u v p q;

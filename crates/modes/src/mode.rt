@@ -1,113 +1,89 @@
 // The mode charge over lent memory, one place for each reading.
-ghost use Rattle.std.specs.Prelude.{◌≡◌, ℕ, ◌<◌, ◌≤◌, true, [], length, take, drop, OnOk};
-ghost use Rattle.charges.specs.Told.{take_told};
-ghost use Rattle.readings.specs.Symbols.{symbol_reading, all_symbols};
+ghost use Rattle.std.specs.Prelude.{◌≡◌, ◌<◌, ◌≤◌, true, [], length, take, drop, IfOk};
+ghost use Rattle.charges.specs.Told.{segment_told};
+ghost use Rattle.readings.specs.Symbols.{all_symbols};
 ghost use Rattle.readings.specs.Makings.{making_told, made_capacity};
-ghost use Rattle.modes.specs.Modes.{mode as commonest_symbol, mode_rules, mode_levels};
+ghost use Rattle.modes.specs.Modes.{commonest, differing, mode as commonest_symbol, mode_rules, mode_levels};
 
-use crate::{Table, show_laws};
+use crate::{Commonest, mode_in};
 use amounts::Whole;
 use charges::levels::LevelCharge;
 use charges::{Charge, Refusal};
-use readings::{is_symbol, test_making};
+use lent_lists::LentList;
+use readings::{is_symbol, test_price, test_segment, test_taking};
 
-// The table keeps the readings held in the order of the hole.
+// The readings held, in the order of the hole.
 #[derive(Drop)]
 pub struct Mode<'a> {
-    table: Table<'a>,
-    count: usize,
-    capacity: usize,
-    ghost few: { count ≤ capacity },
-    ghost small: { capacity ≤ 1024 },
-    ghost room: { capacity ≤ length table.places.now },
-    ghost symbols: { all_symbols (take count table.places.now) ≡ true },
+    list: LentList<'a, i64>,
+    ghost symbols: { all_symbols (take list.len list.places.now) ≡ true },
 }
 
 impl<'a> Mode<'a> {
-    // Whether a mode charge of this capacity can be made over the table.
+    // Whether a mode charge of this capacity can be made over the table: what the list says of it, by the charge's own name.
     pub fn test(table: &[i64], capacity: usize) -> Result<(), Refusal>
         ensures value { result ≡ making_told capacity capacity (length table.now) }
     {
-        test_making(capacity, capacity, table.len())
+        LentList::test(table, capacity)
     }
 
     // A charge that holds no reading; from what the test refuses, one of capacity 0. No place is written.
     pub fn new(table: &'a mut [i64], capacity: usize) -> Mode<'a>
-        ensures capacity { result.capacity ≡ made_capacity (making_told capacity capacity (length table.old)) capacity }
-        ensures held { take result.count result.table.places.now ≡ [] }
-        ensures table { result.table.places.now ≡ table.old }
-        ensures lender { result.table.places.ghost_name ≡ table.entry.ghost_name }
+        ensures capacity { result.list.capacity ≡ made_capacity (making_told capacity capacity (length table.old)) capacity }
+        ensures held { take result.list.len result.list.places.now ≡ [] }
+        ensures table { result.list.places.now ≡ table.old }
+        ensures lender { result.list.places.ghost_name ≡ table.entry.ghost_name }
     {
-        let capacity = match Mode::test(table, capacity) {
-            Ok(()) => capacity,
-            Err(_) => 0,
-        };
         Mode {
-            table: Table { places: table },
-            count: 0,
-            capacity,
+            list: LentList::new(table, capacity),
         }
     }
 
-    // What take answers, before it changes anything.
-    fn admits(&self, reading: i64) -> Result<(), Refusal>
-        ensures value { result ≡ take_told (mode_rules self.now.capacity) (take self.now.count self.now.table.places.now) reading }
-        ensures free { OnOk result ((self.now.count < self.now.capacity) × (symbol_reading reading ≡ true)) }
+    // The commonest symbol of the segment (s, t), and how many of its readings differ from it.
+    fn mode_of(&self, s: usize, t: usize) -> Result<Commonest, Refusal>
+        ensures value { result ≡ segment_told (λ u. record { symbol = commonest u; others = differing u (commonest u) }) (take self.now.list.len self.now.list.places.now) s t }
+        ensures small { IfOk result (λ m. m.symbol < 32) }
     {
-        if self.table.len(self.count) >= self.capacity {
-            return Err(Refusal::Full);
-        }
-        if !is_symbol(reading) {
-            return Err(Refusal::Unlawful);
-        }
-        Ok(())
+        test_segment(s, t, self.list.len())?;
+        Ok(mode_in(&self.list.as_slice()[s..t]))
     }
 }
 
 impl<'a> Charge for Mode<'a> {
     type Cost = Whole;
 
-    ghost rules = { λ c. mode_rules c.capacity };
+    ghost rules = { λ c. mode_rules c.list.capacity };
 
     ghost leveling = { λ c. commonest_symbol };
 
-    ghost held = { λ c. take c.count c.table.places.now };
+    ghost held = { λ c. take c.list.len c.list.places.now };
 
     // places past those that hold readings are not written, and the memory is the one that was lent
-    ghost alike = { λ c d. (drop d.count d.table.places.now ≡ drop d.count c.table.places.now) × (d.table.places.ghost_name ≡ c.table.places.ghost_name) };
+    ghost alike = { λ c d. (drop d.list.len d.list.places.now ≡ drop d.list.len c.list.places.now) × (d.list.places.ghost_name ≡ c.list.places.ghost_name) };
 
     fn take(&mut self, reading: i64) -> Result<(), Refusal> {
-        self.admits(reading)?;
-        self.table.add(self.count, reading);
-        self.count += 1;
-        Ok(())
+        test_taking(self.list.len(), self.list.capacity(), is_symbol(reading))?;
+        self.list.push(reading)
     }
 
     fn fee(&self, s: usize, t: usize) -> Result<Whole, Refusal> {
-        if s >= t || t > self.table.len(self.count) {
-            return Err(Refusal::Outside);
-        }
-        let mode = self.table.mode_of(self.count, s, t);
+        let mode = self.mode_of(s, t)?;
         Ok(Whole {
             number: mode.others as u64,
         })
     }
 
     fn level(&self, s: usize, t: usize) -> Result<i64, Refusal> {
-        if s >= t || t > self.table.len(self.count) {
-            return Err(Refusal::Outside);
-        }
-        let commonest = self.table.mode_of(self.count, s, t);
+        let commonest = self.mode_of(s, t)?;
         Ok(commonest.symbol as i64)
     }
 
     fn count(&self) -> usize {
-        show_laws(self.capacity);
-        self.table.len(self.count) // how many are held
+        self.list.len() // how many are held
     }
 
     fn capacity(&self) -> usize {
-        self.capacity // how many can be
+        self.list.capacity() // how many can be
     }
 
     fn reading_bound(&self) -> u64 {
@@ -123,16 +99,12 @@ impl<'a> LevelCharge for Mode<'a> {
     ghost levels = { λ _. mode_levels };
 
     fn count_levels(&self) -> usize {
-        show_laws(self.capacity);
         32 // each symbol
     }
 
     fn price(&self, place: usize, level: usize) -> Result<Whole, Refusal> {
-        if place >= self.table.len(self.count) || level >= 32 {
-            return Err(Refusal::Outside);
-        }
-        let reading = self.table.reading(self.count, place);
-        let same = reading == level as i64;
+        test_price(place, self.list.len(), level, 32)?;
+        let same = self.list.as_slice()[place] == level as i64;
         Ok(Whole {
             number: if same { 0 } else { 1 },
         })

@@ -1,47 +1,29 @@
 -- What a range charge holds and tells, from what its table holds.
-use Rattle.std.proofs.Common.{◌≡◌, ℕ, ◌+◌, ◌-◌, ◌<◌, ◌≤◌, true, List, [], ◌∷◌, ◌++◌, map, length, take, drop, ℤ, Ok, ap, ◌∙◌, arith}
-use base.Stored.{Coded-set}
-use Rattle.std.proofs.lemmas.List.{map_push}
+use Rattle.std.proofs.Common.{◌≡◌, ℕ, ◌-◌, ◌≤◌, true, List, length, take, drop, Result, refl}
+use Rattle.std.specs.Prelude.{IfOk}
 use Rattle.std.proofs.ByRecursion.{All-take, All-drop}
-use Rattle.charges.specs.Rules.{segment}
+use Rattle.charges.specs.Rules.{Held}
+use Rattle.charges.specs.Told.{segment_told}
+use Rattle.charges.specs.declared.Refusal.{Refusal}
+use Rattle.charges.proofs.Lawful.{pass_from_all}
 use Rattle.readings.specs.Numbers.{number_reading}
-use Rattle.readings.proofs.Segments.{length-segment}
-use Rattle.spans.specs.Joinings.{joining, ok_of}
-use Rattle.spans.specs.Rows.{cells_for, Built, joined_cells_told}
-use Rattle.spans.proofs.Powers.{cells_enough}
-use Rattle.spans.proofs.Telling.{answer_told}
+use Rattle.spans.specs.Joinings.{joined_told}
+use Rattle.spans.specs.Rows.{cells_for}
+use Rattle.spans.proofs.Kept.{held_kept, layer, told_kept, told_has}
 use Rattle.ranges.specs.declared.extent.Extent.{Extent}
-use Rattle.ranges.specs.contracts.extent.Extent as E
-use Rattle.ranges.specs.Ranges.{lowest, highest}
+use Rattle.ranges.specs.Ranges.{lowest, highest, range_rules}
 use Rattle.ranges.specs.Extents.{extent, hull, point, all_points, held_in}
-use Rattle.ranges.specs.Hulls.{hull_assoc, hull_idem}
-use Rattle.ranges.proofs.Extents.{points_numbers, points_push, joining_readings, number_ends, length_held, between_points}
+use Rattle.ranges.proofs.Extents.{low_of, points_are, points_numbers, joining_readings, number_ends}
 
-pub extents_set : IsSet Extent
-extents_set = Coded-set (E.the_row).coded
+module _ (capacity count : ℕ) (cells : List Extent) (few : count ≤ capacity) (small : capacity ≤ 1024) (room : cells_for capacity ≤ length cells) (points : all_points (take count cells) ≡ true) where
+  pub held_is : Held (range_rules capacity) (held_in cells count)
+  held_is = held_kept low_of capacity count cells few small room (range_rules capacity) refl (pass_from_all number_reading (held_in cells count) (points_numbers (take count cells) points))
 
-module _ (capacity count : ℕ) (cells : List Extent) (small : capacity ≤ 1024) (room : cells_for capacity ≤ length cells) (few : count ≤ capacity) (points : all_points (take count cells) ≡ true) where
-  module _ (s t : ℕ) (some : s < t) (within : t ≤ count) where
-    abbrev layer : List ℤ
-    layer = segment (held_in cells count) s t
+  module _ (s t : ℕ) where
+    pub told : joined_told hull (take count cells) s t ≡ segment_told (λ u. extent (lowest u) (highest u)) (held_in cells count) s t
+    told = told_kept low_of capacity count cells few small room s t point hull (λ u. extent (lowest u) (highest u)) (points_are (take count cells) points) (joining_readings (layer low_of capacity count cells few small room s t))
 
-    layer_some : 0 < length layer
-    layer_some =
-        let e = length_held cells count (omega (arith, few, room, cells_enough capacity small)) in
-        omega (arith, some, length-segment (held_in cells count) s t (omega (arith, within, e)))
-
-    pub told : ∥ Built hull capacity count cells ∥₁ → joined_cells_told hull capacity cells s t ≡ Ok (extent (lowest layer) (highest layer))
-    told built =
-        answer_told capacity cells (omega (arith, some, within, few)) small room extents_set hull hull_assoc hull_idem count s t few built some within
-        ∙ ap ok_of (ap (joining hull) (between_points cells count s t points) ∙ joining_readings layer layer_some)
-
-    pub ends : (number_reading (lowest layer) ≡ true) × (number_reading (highest layer) ≡ true)
-    ends = number_ends layer layer_some (All-take _ (t - s) (drop s (held_in cells count)) (All-drop _ s (held_in cells count) (points_numbers (take count cells) points)))
-
--- one reading more
-module _ (count : ℕ) (cells now : List Extent) (x : ℤ) (front : take (count + 1) now ≡ take count cells ++ (point x ∷ [])) where
-  pub more_points : all_points (take count cells) ≡ true → number_reading x ≡ true → all_points (take (count + 1) now) ≡ true
-  more_points h n = ap all_points front ∙ points_push (take count cells) x h n
-
-  pub more_held : held_in now (count + 1) ≡ held_in cells count ++ (x ∷ [])
-  more_held = ap (map (λ e. e.low)) front ∙ map_push (λ e. e.low) (take count cells) (point x)
+    pub ends_numbers : (r : Result Extent Refusal) → r ≡ segment_told (λ u. extent (lowest u) (highest u)) (held_in cells count) s t → IfOk r (λ e. (number_reading e.low ≡ true) × (number_reading e.high ≡ true))
+    ends_numbers =
+        told_has low_of capacity count cells few small room s t (λ u. extent (lowest u) (highest u)) (λ e. (number_reading e.low ≡ true) × (number_reading e.high ≡ true))
+        (λ some. number_ends _ some (All-take _ (t - s) (drop s (held_in cells count)) (All-drop _ s (held_in cells count) (points_numbers (take count cells) points))))

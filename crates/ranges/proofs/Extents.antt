@@ -1,20 +1,19 @@
 -- Extents, and the readings of a table of them.
-use Rattle.std.proofs.Common.{◌≡◌, ℕ, ◌-◌, ◌<◌, ◌≤◌, true, ◌&&◌, List, [], ◌∷◌, ◌++◌, map, length, take, drop, ℤ, Some, sym, refl, ap, ap₂, ◌∙◌, arith, length-take}
+use Rattle.std.proofs.Common.{◌≡◌, ◌<◌, true, ◌&&◌, List, [], ◌∷◌, ◌++◌, map, length, ℤ, Some, sym, refl, ap, ap₂, arith}
 use Rattle.std.specs.Prelude.{int_le, int_lt}
-use Rattle.std.specs.List.{between, AllByRecursion}
-use Rattle.std.proofs.lemmas.List.{length-map, take-map, drop-map}
+use Rattle.std.specs.List.{AllByRecursion}
 use Rattle.std.proofs.lemmas.Int.{ints}
 use Rattle.std.proofs.lemmas.Bool.{and_parts, and_from, cond_both}
 use Rattle.readings.specs.Numbers.{number_reading}
 use Rattle.spans.specs.Joinings.{both, joining}
 use Rattle.ranges.specs.declared.extent.Extent.{Extent}
 use Rattle.ranges.specs.Ranges.{lowest, highest, lowest_of, highest_of}
-use Rattle.ranges.specs.Extents.{extent, hull, point, all_points, held_in}
+use Rattle.ranges.specs.Extents.{extent, hull, point, all_points}
 
 abbrev Number : ℤ → Type 0
 Number x = number_reading x ≡ true
 
-abbrev low_of : Extent → ℤ
+abbrev pub low_of : Extent → ℤ
 low_of e = e.low
 
 same : (x y : ℤ) → (int_le x y && int_le y x) ≡ true → x ≡ y
@@ -63,12 +62,3 @@ highest_number x (y ∷ ys) a = cond_both (int_lt (highest_of y ys) x) x (highes
 pub number_ends : (u : List ℤ) → 0 < length u → AllByRecursion Number u → Number (lowest u) × Number (highest u)
 number_ends [] some a = absurd (omega (arith, some))
 number_ends (x ∷ xs) some a = (lowest_number x xs a, highest_number x xs a)
-
-pub length_held : (cells : List Extent) (count : ℕ) → count ≤ length cells → length (held_in cells count) ≡ count
-length_held cells count le = length-map (take count cells) low_of ∙ (length-take count cells ∙ omega arith)
-
--- the cells of a segment are the points of its readings
-pub between_points : (cells : List Extent) (count s t : ℕ) → all_points (take count cells) ≡ true → between s t (take count cells) ≡ map point (between s t (held_in cells count))
-between_points cells count s t h =
-    ap (between s t) (points_are (take count cells) h)
-    ∙ (ap (take (t - s)) (drop-map point s (held_in cells count)) ∙ take-map point (t - s) (drop s (held_in cells count)))

@@ -75,8 +75,8 @@ range-splits u v p q =
 range-weight : (u : List ℤ) → 0 < length u → AllByRecursion (λ x. number_reading x ≡ true) u → length u * range u ≤ length u * 2000000
 range-weight u p a = let n = number_ends u p a in mul-le (length u) (range u) (length u) 2000000 (omega arith) (number_apart (highest u) (lowest u) n.1 n.0)
 
-pub range-laws : (c : ℕ) → c ≤ 1024 → ChargeLaws whole_kind (range_rules c)
-range-laws c few = record {
+pub range_laws : (c : ℕ) → c ≤ 1024 → ChargeLaws whole_kind (range_rules c)
+range_laws c few = record {
   capacity = few;
   bound = omega arith;
   splitting = λ u v p q short. le-leb _ _ (range-splits u v p.some q.some);

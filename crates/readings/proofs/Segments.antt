@@ -16,12 +16,6 @@ segment_all h = take_all (length h - 0) h (omega arith)
 pub segment_none : (s t : ℕ) → segment [] s t ≡ []
 segment_none s t = ap (take (t - s)) (drop_all {X = ℤ} s [] (omega arith)) ∙ take_all {A = ℤ} (t - s) [] (omega arith)
 
--- a segment of the first readings is one of all
-pub segment_front : (l : List ℤ) (n s t : ℕ) → s ≤ t → t ≤ n → segment (take n l) s t ≡ segment l s t
-segment_front l n s t le few =
-    let e : s + (n - s) ≡ n = omega arith in
-    ap (λ m. take (t - s) (drop s (take m l))) (sym e) ∙ (ap (take (t - s)) (drop-take s (n - s) l) ∙ take-take (t - s) (n - s) (drop s l) (omega arith))
-
 -- what all readings pass, those of a segment do
 pub segment_passes : (p : ℤ → Bool) (l : List ℤ) (s t : ℕ) → list_all p l ≡ true → list_all p (segment l s t) ≡ true
 segment_passes p l s t h =

@@ -1,3 +1,4 @@
 pub mod Numbers
 pub mod Makings
 pub mod Symbols
+pub mod Tests

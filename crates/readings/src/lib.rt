@@ -1,10 +1,11 @@
-// What the charges share: which readings are numbers or symbols, and the test before a charge is made.
+// What the charges share: which readings are numbers or symbols, and the tests before a charge is made, takes or answers.
 #![tactic(auto)]
 
-ghost use Rattle.std.specs.Prelude.{◌≡◌};
+ghost use Rattle.std.specs.Prelude.{◌≡◌, ◌<◌, ◌≤◌, true, OnOk};
 ghost use Rattle.readings.specs.Numbers.{number_reading};
 ghost use Rattle.readings.specs.Symbols.{symbol_reading};
 ghost use Rattle.readings.specs.Makings.{making_told};
+ghost use Rattle.readings.specs.Tests.{taking_told, asking_told, pricing_told};
 
 use charges::Refusal;
 
@@ -12,25 +13,64 @@ use charges::Refusal;
 pub fn is_number(reading: i64) -> bool
     ensures value { result ≡ number_reading reading }
 {
-    -1_000_000 <= reading && reading <= 1_000_000
+    (-1_000_000..=1_000_000).contains(&reading)
 }
 
 // Whether the reading is a symbol, from 0 to 31.
 pub fn is_symbol(reading: i64) -> bool
     ensures value { result ≡ symbol_reading reading }
 {
-    0 <= reading && reading <= 31
+    (0..=31).contains(&reading)
 }
 
 // Whether a charge of this capacity can be made, where it needs a table of `needed` places and is lent one of `table`.
 pub fn test_making(capacity: usize, needed: usize, table: usize) -> Result<(), Refusal>
     ensures value { result ≡ making_told capacity needed table }
 {
-    if capacity == 0 || capacity > 1024 {
+    if !(1..=1024).contains(&capacity) {
         return Err(Refusal::Capacity);
     }
     if table < needed {
         return Err(Refusal::ShortTable);
+    }
+    Ok(())
+}
+
+// Whether a charge takes a reading, where it holds `held` of at most `capacity` and the reading is lawful or not.
+pub fn test_taking(held: usize, capacity: usize, lawful: bool) -> Result<(), Refusal>
+    ensures value { result ≡ taking_told held capacity lawful }
+    ensures free { OnOk result (held < capacity) }
+    ensures lawful { OnOk result (lawful ≡ true) }
+{
+    if held >= capacity {
+        return Err(Refusal::Full);
+    }
+    if !lawful {
+        return Err(Refusal::Unlawful);
+    }
+    Ok(())
+}
+
+// Whether (s, t) is a segment of the `held` readings.
+pub fn test_segment(s: usize, t: usize, held: usize) -> Result<(), Refusal>
+    ensures value { result ≡ asking_told s t held }
+    ensures some { OnOk result (s < t) }
+    ensures within { OnOk result (t ≤ held) }
+{
+    if s >= t || t > held {
+        return Err(Refusal::Outside);
+    }
+    Ok(())
+}
+
+// Whether there is a reading at the place among those held, and a level of that number among those offered.
+pub fn test_price(place: usize, held: usize, level: usize, offered: usize) -> Result<(), Refusal>
+    ensures value { result ≡ pricing_told place held level offered }
+    ensures held { OnOk result (place < held) }
+    ensures offered { OnOk result (level < offered) }
+{
+    if place >= held || level >= offered {
+        return Err(Refusal::Outside);
     }
     Ok(())
 }

@@ -1,18 +1,17 @@
 -- Sets of one symbol, and the readings of a table of them.
-use Rattle.std.proofs.Common.{◌≡◌, ℕ, zero, suc, ◌-◌, ◌*◌, ◌/◌, ◌%◌, ◌^◌, ◌<◌, ◌≤◌, true, ◌&&◌, eqb, ltb, List, [], ◌∷◌, ◌++◌, map, length, take, drop, ℤ, pos, nat_abs, Some, sym, refl, ap, ◌∙◌, ap₂, arith, length-take}
+use Rattle.std.proofs.Common.{◌≡◌, ℕ, zero, suc, ◌*◌, ◌/◌, ◌%◌, ◌^◌, ◌<◌, ◌≤◌, true, ◌&&◌, eqb, ltb, List, [], ◌∷◌, ◌++◌, map, length, ℤ, pos, nat_abs, Some, sym, refl, ap, ◌∙◌, ap₂, arith}
 use lib.Bits.{bit_or, or_zero_r}
 use lib.Count.{count_trailing_zeros, under}
 use lib.Signed.{le_z}
-use Rattle.std.specs.List.{between, AllByRecursion}
+use Rattle.std.specs.List.{AllByRecursion}
 use Rattle.std.proofs.lemmas.Nat.{pow-add}
-use Rattle.std.proofs.lemmas.List.{length-map, take-map, drop-map}
 use Rattle.std.proofs.lemmas.Int.{ints}
 use Rattle.std.proofs.lemmas.Bool.{and_parts, and_from, ltb-true, eqb-true, lt-ltb, eq-eqb}
 use Rattle.readings.specs.Symbols.{symbol_reading}
 use Rattle.spans.specs.Joinings.{both, joining}
 use Rattle.soils.specs.declared.symbols.Symbols.{Symbols}
 use Rattle.soils.specs.Soils.{set_of}
-use Rattle.soils.specs.Sets.{symbols, union, single, symbol_of, all_single, held_in}
+use Rattle.soils.specs.Sets.{symbols, union, single, symbol_of, all_single}
 use Rattle.soils.proofs.Counts.{with_one, set_none}
 
 double : (j : ℕ) → 2 ^ suc j ≡ 2 ^ j * 2
@@ -85,12 +84,3 @@ joining_singles x (y ∷ ys) a =
 pub joining_readings : (u : List ℤ) → 0 < length u → AllByRecursion Symbol u → joining union (map single u) ≡ Some (symbols (set_of u))
 joining_readings [] some a = absurd (omega (arith, some))
 joining_readings (x ∷ xs) some a = joining_singles x xs a
-
-pub length_held : (cells : List Symbols) (count : ℕ) → count ≤ length cells → length (held_in cells count) ≡ count
-length_held cells count le = length-map (take count cells) symbol_of ∙ (length-take count cells ∙ omega arith)
-
--- the cells of a segment are the sets of its readings
-pub between_singles : (cells : List Symbols) (count s t : ℕ) → all_single (take count cells) ≡ true → between s t (take count cells) ≡ map single (between s t (held_in cells count))
-between_singles cells count s t h =
-    ap (between s t) (singles_are (take count cells) h)
-    ∙ (ap (take (t - s)) (drop-map single s (held_in cells count)) ∙ take-map single (t - s) (drop s (held_in cells count)))

@@ -1,18 +1,16 @@
 -- Joining lists: two that overlap join to what they cover together.
 use Rattle.std.proofs.Common.{◌≡◌, ℕ, ◌+◌, ◌-◌, ◌≤◌, List, [], ◌∷◌, ◌++◌, take, drop, Some, None, Option, sym, refl, ap, ◌∙◌, ap₂, arith}
 use Rattle.std.specs.List.{between}
-use Rattle.std.proofs.lemmas.List.{take-append-drop, take-take, drop-take, drop-drop}
+use Rattle.std.proofs.Math.Seq.{take-add}
+use Rattle.std.proofs.lemmas.List.{drop-drop}
 use Rattle.spans.specs.Joinings.{both, joining}
-
-take_add : {X : Type 0} (a b : ℕ) (xs : List X) → take (a + b) xs ≡ take a xs ++ take b (drop a xs)
-take_add a b xs = sym (take-append-drop a (take (a + b) xs)) ∙ ap₂ (λ u v. u ++ v) (take-take a (a + b) xs (omega arith)) (drop-take a b xs)
 
 pub between_split : {X : Type 0} (i m j : ℕ) (xs : List X) → i ≤ m → m ≤ j → between i j xs ≡ between i m xs ++ between m j xs
 between_split i m j xs p q =
     let e : j - i ≡ (m - i) + (j - m) = omega arith in
     let f : i + (m - i) ≡ m = omega arith in
     ap (λ n. take n (drop i xs)) e
-    ∙ (take_add (m - i) (j - m) (drop i xs)
+    ∙ (take-add (m - i) (j - m) (drop i xs)
     ∙ ap (λ l. between i m xs ++ take (j - m) l) (drop-drop (m - i) i xs ∙ ap (λ n. drop n xs) f))
 
 module _ {T : Type 0} (join : T → T → T) (assoc : (x y z : T) → join (join x y) z ≡ join x (join y z)) where

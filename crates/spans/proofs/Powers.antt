@@ -1,12 +1,19 @@
 -- How many powers of two are not above a capacity.
-use Rattle.std.proofs.Common.{◌≡◌, ℕ, zero, suc, ◌+◌, ◌-◌, ◌*◌, ◌^◌, ◌<◌, ◌≤◌, cond, sym, refl, ap, ◌∙◌, subst, ⊎_elim, arith}
-use lib.Count.{count_leading_zeros}
-use Rattle.std.proofs.lemmas.Nat.{pow-add, pow_below, mul-le, mul-add-lt, leading_top}
+use Rattle.std.proofs.Common.{◌≡◌, ℕ, zero, suc, ◌+◌, ◌-◌, ◌*◌, ◌^◌, ◌<◌, ◌≤◌, cond, sym, refl, ap, ◌∙◌, subst, ⊎_elim, add-one, add-mul, arith}
+use Rattle.std.proofs.Math.Nat.{pow-le-pow_right}
+use Rattle.std.proofs.lemmas.Nat.{pow_pos, pow-add, mul-add-lt, leading_top}
 use Rattle.std.proofs.lemmas.Bool.{cases_lt, cases_eq, le-leb, lt-leb}
 use Rattle.spans.specs.Rows.{powers_upto, row_count, cells_for}
 
 pub power_le : (j k : ℕ) → j ≤ k → 2 ^ j ≤ 2 ^ k
-power_le j k le = ⊎_elim (λ e. omega (arith, ap (λ i. 2 ^ i) e)) (λ ne. omega (arith, pow_below j k (omega (arith, ne)))) (cases_eq j k)
+power_le j k le = pow-le-pow_right (omega arith) le
+
+pub double : (k : ℕ) → 2 ^ (k + 1) ≡ 2 ^ k + 2 ^ k
+double k = omega (arith, pow-add 2 k 1)
+
+-- half of the span that ends at n lies before n
+pub half_before : (k n : ℕ) → 2 ^ (k + 1) ≤ n + 1 → 2 ^ k ≤ n
+half_before k n fits = omega (arith, double k, pow_pos k)
 
 above-itself : (j : ℕ) → j < 2 ^ j
 above-itself zero = omega arith
@@ -34,40 +41,27 @@ module _ (c j : ℕ) (low : 2 ^ j ≤ c) (high : c < 2 ^ (j + 1)) where
   pub rows_are : row_count c ≡ j + 1
   rows_are = many c (omega (arith, low, above-itself j))
 
--- the greatest power of two not above n, from its leading zeros
-pub leading_power : (n : ℕ) → 0 < n → n < 2 ^ 64 → (2 ^ (63 - count_leading_zeros 64 n) ≤ n) × (n < 2 ^ (63 - count_leading_zeros 64 n + 1))
-leading_power n some fits =
-    let top = leading_top 64 n some fits in
-    let j = top.0 in
-    let e : 63 - count_leading_zeros 64 n ≡ j = omega (arith, top.1) in
-    let f : suc j ≡ j + 1 = omega arith in
-    (subst (λ i. 2 ^ i ≤ n) (sym e) top.2, subst (λ i. n < 2 ^ (i + 1)) (sym e) (subst (λ i. n < 2 ^ i) f top.3))
+-- the greatest power of two not above n
+greatest : (n : ℕ) → 0 < n → n ≤ 1024 → (j : ℕ) × (2 ^ j ≤ n) × (n < 2 ^ (j + 1))
+greatest n some small = let top = leading_top 64 n some (omega (arith, small)) in (top.0, top.2, subst (λ i. n < 2 ^ i) (sym (add-one top.0)) top.3)
 
 -- a cell of a row that the capacity has
 pub row_inside : (c j n : ℕ) → c ≤ 1024 → n < c → 2 ^ j ≤ n + 1 → j * c + n < cells_for c
 row_inside c j n small lt fits =
-    let p = leading_power c (omega (arith, lt)) (omega (arith, small)) in
-    let k = 63 - count_leading_zeros 64 c in
-    let is : cells_for c ≡ c * (k + 1) = ap (λ i. c * i) (rows_are c k p.0 p.1) in
-    omega (arith, is, mul-add-lt j c n (k + 1) (below_power j (k + 1) c (omega (arith, fits, lt)) p.1) lt)
+    let top = greatest c (omega (arith, lt)) small in
+    let is : cells_for c ≡ c * (top.0 + 1) = ap (λ i. c * i) (rows_are c top.0 top.1 top.2) in
+    omega (arith, is, mul-add-lt j c n (top.0 + 1) (below_power j (top.0 + 1) c (omega (arith, fits, lt)) top.2) lt)
 
-pub cells_small : (c : ℕ) → c ≤ 1024 → cells_for c ≤ 65536
-cells_small c small =
-    ⊎_elim
-    (λ some. let p = leading_power c some (omega (arith, small)) in
-    let k = 63 - count_leading_zeros 64 c in
-    let is : cells_for c ≡ c * (k + 1) = ap (λ i. c * i) (rows_are c k p.0 p.1) in
-    omega (arith, is, mul-le c (k + 1) 1024 64 small (omega arith)))
-    (λ none. let z : c ≡ 0 = omega (arith, none) in omega (arith, ap (λ i. i * row_count c) z))
-    (cases_lt 0 c)
+-- and that of the next row
+pub next_inside : (c k n : ℕ) → c ≤ 1024 → n < c → 2 ^ (k + 1) ≤ n + 1 → k * c + n + c < cells_for c
+next_inside c k n small lt fits = omega (arith, add-mul k 1 c, row_inside c (k + 1) n small lt fits)
 
 -- the row of the longest spans that fit n elements
 pub row_of : (n : ℕ) → 0 < n → n ≤ 1024 → (2 ^ (row_count n - 1) ≤ n) × (n < 2 ^ (row_count n - 1 + 1))
 row_of n some small =
-    let p = leading_power n some (omega (arith, small)) in
-    let k = 63 - count_leading_zeros 64 n in
-    let is : row_count n - 1 ≡ k = omega (arith, rows_are n k p.0 p.1) in
-    (subst (λ i. 2 ^ i ≤ n) (sym is) p.0, subst (λ i. n < 2 ^ (i + 1)) (sym is) p.1)
+    let top = greatest n some small in
+    let is : row_count n - 1 ≡ top.0 = omega (arith, rows_are n top.0 top.1 top.2) in
+    (subst (λ i. 2 ^ i ≤ n) (sym is) top.1, subst (λ i. n < 2 ^ (i + 1)) (sym is) top.2)
 
 -- at least one row
 pub cells_enough : (c : ℕ) → c ≤ 1024 → c ≤ cells_for c

@@ -1,28 +1,22 @@
 -- What the cells of a span table hold, and after a push.
-use Rattle.std.proofs.Common.{◌≡◌, ℕ, zero, suc, ◌+◌, ◌-◌, ◌*◌, ◌/◌, ◌%◌, ◌^◌, ◌<◌, ◌≤◌, eqb, leb, List, [], ◌∷◌, ◌++◌, length, get_or, take, drop, set, Some, sym, refl, ap, ◌∙◌, subst, ap₂, ⊎_elim, add-mul, arith}
+use Rattle.std.proofs.Common.{◌≡◌, ℕ, zero, suc, ◌+◌, ◌-◌, ◌*◌, ◌/◌, ◌%◌, ◌^◌, ◌<◌, ◌≤◌, eqb, leb, ltb, List, [], ◌∷◌, ◌++◌, length, get_or, take, drop, set, Some, Ok, sym, refl, ap, ◌∙◌, subst, ap₂, ⊎_elim, add-one, add-mul, arith}
 use Rattle.std.specs.List.{between}
-use Rattle.std.proofs.lemmas.Nat.{pow_pos, pow-add, div-add-mod', div-mul-add, mod-mul-add}
-use Rattle.std.proofs.lemmas.List.{take-take, take_at, length_push, length-take-le, get_or_push}
+use Rattle.std.proofs.lemmas.Nat.{pow_pos, div-add-mod', div-mul-add, mod-mul-add, same_from_place}
+use Rattle.std.proofs.lemmas.List.{take-take, take_at, length_push, length-take, length-take-le, length-set, take-set-le, drop-set-lt, take_more_set, get_or_push, get_or-set_same}
 use Rattle.std.proofs.lemmas.List.Edits.{between_none, between_more}
+use Rattle.std.proofs.lemmas.Option.{slice_get-get_or}
 use Rattle.std.proofs.lemmas.Slice.{between_is}
-use Rattle.std.proofs.lemmas.Bool.{both_ways, and_left, ne_eqb, cases_eq, cases_Bool, and_from, and_parts, cond-true, cond-false, eq-eqb, eqb-true, le-leb, leb-true}
-use Rattle.spans.specs.Joinings.{both, joining}
-use Rattle.spans.specs.Rows.{row_count, cell, span, Built, written, new_span, pushed_cell, joined_cells_lem}
+use Rattle.std.proofs.lemmas.Bool.{both_ways, and_left, ne_eqb, cases_eq, cases_Bool, and_from, and_parts, cond-true, cond-false, eq-eqb, eqb-true, le-leb, lt-ltb, leb-true}
+use Rattle.spans.specs.Joinings.{both, joining, ok_of, joined_told}
+use Rattle.spans.specs.Rows.{row_count, cells_for, cell, span, Built, written, new_span, pushed_cell, joined_cells_lem}
 use Rattle.spans.proofs.Joins.{joining_split, covering}
-use Rattle.spans.proofs.Powers.{below_power, row_of}
+use Rattle.spans.proofs.Powers.{power_le, below_power, double, half_before, next_inside, cells_enough, row_of}
 
 module _ {T : Type 0} where
-  pub cell-get_or : (l : List T) (i : ℕ) (d : T) → i < length l → cell l i ≡ Some (get_or l i d)
-  cell-get_or [] i d h = absurd (omega (arith, h))
-  cell-get_or (x ∷ xs) zero d h = refl
-  cell-get_or (x ∷ xs) (suc i) d h = cell-get_or xs i d (omega (arith, h))
+  cell_set_same : (l : List T) (i : ℕ) (x : T) → i < length l → cell (set l i x) i ≡ Some x
+  cell_set_same l i x h = slice_get-get_or (set l i x) i x (omega (arith, h, length-set l i x)) ∙ ap Some (get_or-set_same l i x x h)
 
-  pub cell_set_same : (l : List T) (i : ℕ) (x : T) → i < length l → cell (set l i x) i ≡ Some x
-  cell_set_same [] i x h = absurd (omega (arith, h))
-  cell_set_same (y ∷ ys) zero x h = refl
-  cell_set_same (y ∷ ys) (suc i) x h = cell_set_same ys i x (omega (arith, h))
-
-  pub cell_set_other : (l : List T) (i j : ℕ) (x : T) → (i ≡ j → ⊥) → cell (set l j x) i ≡ cell l i
+  cell_set_other : (l : List T) (i j : ℕ) (x : T) → (i ≡ j → ⊥) → cell (set l j x) i ≡ cell l i
   cell_set_other [] i j x h = refl
   cell_set_other (y ∷ ys) zero zero x h = absurd (h refl)
   cell_set_other (y ∷ ys) zero (suc j) x h = refl
@@ -32,78 +26,84 @@ module _ {T : Type 0} where
   between_front : (n i j : ℕ) (l : List T) → j ≤ n → between i j (take n l) ≡ between i j l
   between_front n i j l le = between_is (take n l) i j ∙ (ap (drop i) (take-take j n l le) ∙ sym (between_is l i j))
 
-columns : (a b c e n : ℕ) → e < c → n < c → a * c + e ≡ b * c + n → e ≡ n
-columns a b c e n p q h = sym (mod-mul-add a c e p) ∙ (ap (λ i. i % c) h ∙ mod-mul-add b c n q)
+module _ {T : Type 0} (join : T → T → T) (c n : ℕ) (old : List T) (x : T) where
+  -- the first k rows have the span that ends at the new element
+  pub record Filled (k : ℕ) (now : List T) : Type 0 where
+    pub long : length now ≡ length old
+    pub front : take (n + 1) now ≡ take n old ++ (x ∷ [])
+    pub rest : drop (cells_for c) now ≡ drop (cells_for c) old
+    pub rows : (j : ℕ) → j < k → cell now (j * c + n) ≡ new_span join c n old x j
+    pub others : (i : ℕ) → ((j : ℕ) → j < k → i ≡ j * c + n → ⊥) → cell now i ≡ cell old i
 
-rows_same : (a b c e n : ℕ) → e < c → n < c → a * c + e ≡ b * c + n → a ≡ b
-rows_same a b c e n p q h = sym (div-mul-add a c e p) ∙ (ap (λ i. i / c) h ∙ div-mul-add b c n q)
+  module _ (small : c ≤ 1024) (free : n < c) (room : cells_for c ≤ length old) where
+    held : n < length old
+    held = omega (arith, cells_enough c small)
 
-double : (k : ℕ) → 2 ^ (k + 1) ≡ 2 ^ k + 2 ^ k
-double k = omega (arith, pow-add 2 k 1)
+    zero_row : 0 * c + n ≡ n
+    zero_row = omega arith
 
--- a row begins a whole row behind the one before
-pub rows_apart : (k c : ℕ) → 0 < k → (k - 1) * c + c ≡ k * c
-rows_apart k c some = let e : (k - 1) + 1 ≡ k = omega arith in omega (arith, sym (add-mul (k - 1) 1 c) ∙ ap (λ i. i * c) e)
+    pub filled_first : Filled 1 (set old n x)
+    unfolding new_span
+    filled_first = record {
+      long = length-set old n x;
+      front = take_more_set old n x held;
+      rest = drop-set-lt (cells_for c) old n x (omega (arith, cells_enough c small));
+      rows = λ j lt. let z : j ≡ 0 = omega (arith, lt) in subst (λ i. cell (set old n x) (i * c + n) ≡ new_span join c n old x i) (sym z) (ap (cell (set old n x)) zero_row ∙ cell_set_same old n x held);
+      others = λ i ne. cell_set_other old i n x (λ e. ne 0 (omega arith) (e ∙ sym zero_row));
+    }
 
--- half of the span that ends at n lies before n
-pub half_before : (k n : ℕ) → 0 < k → 2 ^ k ≤ n + 1 → 2 ^ (k - 1) ≤ n
-half_before k n some fits = let e : 2 ^ k ≡ 2 ^ (k - 1) + 2 ^ (k - 1) = ap (λ i. 2 ^ i) (omega arith) ∙ double (k - 1) in omega (arith, pow_pos (k - 1))
+    new_span-next : (k : ℕ) → both join (cell old (k * c + n - 2 ^ k)) (new_span join c n old x k) ≡ new_span join c n old x (k + 1)
+    unfolding new_span
+    new_span-next k = ap (new_span join c n old x) (sym (add-one k))
+
+    module _ (k : ℕ) (now : List T) (filled : Filled (k + 1) now) (fits : 2 ^ (k + 1) ≤ n + 1) where
+      abbrev next : ℕ
+      next = k * c + n + c
+
+      next-is : next ≡ (k + 1) * c + n
+      next-is = omega (arith, add-mul k 1 c)
+
+      half : 2 ^ k ≤ n
+      half = half_before k n fits
+
+      left : cell now (k * c + n - 2 ^ k) ≡ cell old (k * c + n - 2 ^ k)
+      left =
+          let i : k * c + n - 2 ^ k ≡ k * c + (n - 2 ^ k) = omega (arith, half) in
+          filled.others (k * c + n - 2 ^ k) (λ j lt e. omega (arith, half, pow_pos k, (same_from_place k (n - 2 ^ k) j n c (omega (arith, free)) free (sym i ∙ e)).1))
+
+      pub filled_more : (p : ℕ) → p ≡ 2 ^ k → (d : T) (new : List T) → new ≡ set now next (join (get_or now (k * c + n - p) d) (get_or now (k * c + n) d)) → Filled (k + 1 + 1) new
+      filled_more p is d new after =
+          let next-inside = next_inside c k n small free fits in
+          let v = join (get_or now (k * c + n - p) d) (get_or now (k * c + n) d) in
+          let inside : next < length now = omega (arith, next-inside, filled.long, room) in
+          let value : Some v ≡ new_span join c n old x (k + 1) =
+          sym (ap₂ (both join) (slice_get-get_or now (k * c + n - p) d (omega (arith, inside))) (slice_get-get_or now (k * c + n) d (omega (arith, inside))))
+          ∙ (ap₂ (both join) (ap (λ i. cell now (k * c + n - i)) is ∙ left) (filled.rows k (omega arith)) ∙ new_span-next k) in
+          subst (Filled (k + 1 + 1)) (sym after)
+          record {
+            long = length-set now next v ∙ filled.long;
+            front = take-set-le (n + 1) now next v (omega (arith, free)) ∙ filled.front;
+            rest = drop-set-lt (cells_for c) now next v next-inside ∙ filled.rest;
+            rows = λ j lt. ⊎_elim
+                (λ e. subst (λ i. cell (set now next v) i ≡ new_span join c n old x j) (next-is ∙ ap (λ i. i * c + n) (sym e)) (cell_set_same now next v inside ∙ (value ∙ ap (new_span join c n old x) (sym e))))
+                (λ ne. cell_set_other now (j * c + n) next v (λ e. ne (same_from_place j n (k + 1) n c free free (e ∙ next-is)).0) ∙ filled.rows j (omega (arith, lt, ne)))
+                (cases_eq j (k + 1));
+            others = λ i ne. cell_set_other now i next v (λ e. ne (k + 1) (omega arith) (e ∙ next-is)) ∙ filled.others i (λ j lt. ne j (omega (arith, lt)));
+          }
+
+    -- all rows are filled
+    pub filled_cells : (top : ℕ) (now : List T) → Filled (top + 1) now → 2 ^ top ≤ n + 1 → n + 1 < 2 ^ (top + 1) → (i : ℕ) → cell now i ≡ pushed_cell join c n old x i
+    filled_cells top now filled low high i =
+        ⊎_elim
+        (λ y. let p = and_parts (eqb (i % c) n) (leb (2 ^ (i / c)) (n + 1)) y in
+        let at : i ≡ (i / c) * c + n = sym (div-add-mod' i c) ∙ ap (λ m. (i / c) * c + m) (eqb-true (i % c) n p.0) in
+        ap (cell now) at ∙ (filled.rows (i / c) (below_power (i / c) (top + 1) (n + 1) (leb-true _ _ p.1) high) ∙ sym (cond-true _ _ _ y)))
+        (λ z. filled.others i (λ j lt e. both_ways (written c n i) z (and_from _ _ (eq-eqb (i % c) n (ap (λ m. m % c) e ∙ mod-mul-add j c n free)) (le-leb _ _ (subst (λ m. 2 ^ m ≤ n + 1) (sym (ap (λ m. m / c) e ∙ div-mul-add j c n free)) (omega (arith, low, power_le j top (omega (arith, lt)))))))) ∙ sym (cond-false _ _ _ z))
+        (cases_Bool (written c n i))
 
 module _ {T : Type 0} (join : T → T → T) (c n : ℕ) (old : List T) (x : T) (free : n < c) (room : n < length old) where
   abbrev elements : List T
   elements = take n old ++ (x ∷ [])
-
-  -- the rows below k have the span that ends at the new element
-  pub record Filled (k : ℕ) (now : List T) : Type 0 where
-    pub rows : (j : ℕ) → j < k → cell now (j * c + n) ≡ new_span join c n old x j
-    pub others : (i : ℕ) → ((j : ℕ) → j < k → i ≡ j * c + n → ⊥) → cell now i ≡ cell old i
-
-  zero_row : 0 * c + n ≡ n
-  zero_row = omega arith
-
-  pub filled_first : Filled 1 (set old n x)
-  unfolding new_span
-  filled_first = record {
-    rows = λ j lt. let z : j ≡ 0 = omega (arith, lt) in subst (λ i. cell (set old n x) (i * c + n) ≡ new_span join c n old x i) (sym z) (ap (cell (set old n x)) zero_row ∙ cell_set_same old n x room);
-    others = λ i ne. cell_set_other old i n x (λ e. ne 0 (omega arith) (e ∙ sym zero_row));
-  }
-
-  new_span-suc : (k : ℕ) → 0 < k → both join (cell old ((k - 1) * c + n - 2 ^ (k - 1))) (new_span join c n old x (k - 1)) ≡ new_span join c n old x k
-  unfolding new_span
-  new_span-suc zero some = absurd (omega (arith, some))
-  new_span-suc (suc k) some = let e : suc k - 1 ≡ k = omega arith in ap (λ i. both join (cell old (i * c + n - 2 ^ i)) (new_span join c n old x i)) e
-
-  module _ (k : ℕ) (now : List T) (filled : Filled k now) (some : 0 < k) (fits : 2 ^ k ≤ n + 1) where
-    module _ (v : T) (value : both join (cell now ((k - 1) * c + n - 2 ^ (k - 1))) (cell now ((k - 1) * c + n)) ≡ Some v) (inside : k * c + n < length now) where
-      left : cell now ((k - 1) * c + n - 2 ^ (k - 1)) ≡ cell old ((k - 1) * c + n - 2 ^ (k - 1))
-      left =
-          let pos = pow_pos (k - 1) in
-          let small = half_before k n some fits in
-          let i : (k - 1) * c + n - 2 ^ (k - 1) ≡ (k - 1) * c + (n - 2 ^ (k - 1)) = omega arith in
-          filled.others ((k - 1) * c + n - 2 ^ (k - 1)) (λ j lt e. let f = columns (k - 1) j c (n - 2 ^ (k - 1)) n (omega (arith, free)) free (sym i ∙ e) in omega (arith, f, pos, small))
-
-      value-is : Some v ≡ new_span join c n old x k
-      value-is = sym value ∙ (ap₂ (both join) left (filled.rows (k - 1) (omega arith)) ∙ new_span-suc k some)
-
-      pub filled_more : Filled (k + 1) (set now (k * c + n) v)
-      filled_more = record {
-        rows = λ j lt. ⊎_elim
-            (λ e. subst (λ i. cell (set now (k * c + n) v) (i * c + n) ≡ new_span join c n old x i) (sym e) (cell_set_same now (k * c + n) v inside ∙ value-is))
-            (λ ne. cell_set_other now (j * c + n) (k * c + n) v (λ e. ne (rows_same j k c n n free free e)) ∙ filled.rows j (omega (arith, lt, ne)))
-            (cases_eq j k);
-        others = λ i ne. cell_set_other now i (k * c + n) v (λ e. ne k (omega arith) e) ∙ filled.others i (λ j lt. ne j (omega (arith, lt)));
-      }
-
-  -- all rows are filled
-  module _ (k : ℕ) (now : List T) (filled : Filled k now) (low : (j : ℕ) → j < k → 2 ^ j ≤ n + 1) (high : n + 1 < 2 ^ k) where
-    pub filled_cells : (i : ℕ) → cell now i ≡ pushed_cell join c n old x i
-    filled_cells i =
-        ⊎_elim
-        (λ y. let p = and_parts (eqb (i % c) n) (leb (2 ^ (i / c)) (n + 1)) y in
-        let at : i ≡ (i / c) * c + n = sym (div-add-mod' i c) ∙ ap (λ m. (i / c) * c + m) (eqb-true (i % c) n p.0) in
-        ap (cell now) at ∙ (filled.rows (i / c) (below_power (i / c) k (n + 1) (leb-true _ _ p.1) high) ∙ sym (cond-true _ _ _ y)))
-        (λ z. filled.others i (λ j lt e. both_ways (written c n i) z (and_from _ _ (eq-eqb (i % c) n (ap (λ m. m % c) e ∙ mod-mul-add j c n free)) (le-leb _ _ (subst (λ m. 2 ^ m ≤ n + 1) (sym (ap (λ m. m / c) e ∙ div-mul-add j c n free)) (low j lt))))) ∙ sym (cond-false _ _ _ z))
-        (cases_Bool (written c n i))
 
   -- what was worked out is the joining of the elements
   module _ (assoc : (x y z : T) → join (join x y) z ≡ join x (join y z)) (built : Built join c n old) where
@@ -179,3 +179,8 @@ module _ {T : Type 0} (join : T → T → T) (assoc : (x y z : T) → join (join
       let pos = pow_pos k in
       ap₂ (both join) (built k (s + 2 ^ k - 1) (omega (arith, pos)) (omega (arith, p.0, le, lt, pos))) (built k (t - 1) (omega (arith, p.0, lt)) (omega (arith, le, lt)))
       ∙ covered (take n cells) s t k lt p.0 p.1
+
+  pub joined_is : (c n : ℕ) (cells : List T) → c ≤ 1024 → cells_for c ≤ length cells → Built join c n cells → (s t : ℕ) → s < t → t ≤ n → t ≤ c → (v : T) → Some v ≡ joined_cells_lem join c cells s t → Ok v ≡ joined_told join (take n cells) s t
+  joined_is c n cells small room built s t lt le few v value =
+      ap ok_of (value ∙ answered c n cells built s t lt le (omega (arith, few, small)))
+      ∙ sym (cond-true _ _ _ (and_from (ltb s t) (leb t (length (take n cells))) (lt-ltb s t lt) (le-leb t (length (take n cells)) (omega (arith, length-take n cells, cells_enough c small, few, le, room)))))

@@ -1,8 +1,9 @@
 -- How a span table keeps its elements.
 --   row: as many cells as the capacity; row k has the cells from k * capacity on. Row 0 holds the elements.
 --   span: elements that follow each other, as many as a power of two. Cell e of row k holds the joining of the 2^k that end at e.
-use Rattle.std.specs.Prelude.{◌≡◌, ℕ, zero, suc, ◌+◌, ◌-◌, ◌*◌, ◌/◌, ◌%◌, ◌^◌, ◌<◌, ◌≤◌, Bool, cond, ◌&&◌, List, [], ◌∷◌, length, take, is_ok, Some, None, Ok, Err, Option, Result, ◌==◌, nat_le, nat_lt}
-use Rattle.std.specs.List.{between}
+use Rattle.std.specs.Prelude.{◌≡◌, ℕ, zero, suc, ◌+◌, ◌-◌, ◌*◌, ◌/◌, ◌%◌, ◌^◌, ◌<◌, ◌≤◌, Bool, cond, ◌&&◌, List, length, take, is_ok, Some, Ok, Err, Option, Result, ◌==◌, nat_le, nat_lt}
+use Rattle.std.specs.Coded.{Coded, Coded-set, coded_option}
+use Rattle.std.specs.List.{between, slice_get}
 use Rattle.charges.specs.declared.Refusal.{Refusal}
 use Rattle.charges.specs.declared.Refusal.TheVariants.{Full, Outside}
 use Rattle.readings.specs.Makings.{making_told}
@@ -21,10 +22,9 @@ row_count c = powers_upto c c
 abbrev pub cells_for : ℕ → ℕ
 cells_for c = c * row_count c
 
+-- the cell with a number, if there is one
 abbrev pub cell : {T : Type 0} → List T → ℕ → Option T
-cell [] i = None
-cell (x ∷ xs) zero = Some x
-cell (x ∷ xs) (suc i) = cell xs i
+cell cells i = slice_get cells i
 
 -- the joining of the 2^k elements that end at e
 abbrev pub span : {T : Type 0} → (T → T → T) → List T → ℕ → ℕ → Option T
@@ -33,6 +33,10 @@ span join elements k e = joining join (between (e + 1 - 2 ^ k) (e + 1) elements)
 -- every span of the n elements that is kept is their joining
 abbrev pub Built : {T : Type 0} → (T → T → T) → ℕ → ℕ → List T → Type 0
 Built join c n cells = (k e : ℕ) → 2 ^ k ≤ e + 1 → e < n → cell cells (k * c + e) ≡ span join (take n cells) k e
+
+-- it has at most one proof, so a struct can carry it as it is
+pub Built-prop : {T : Type 0} → Coded T → (join : T → T → T) (c n : ℕ) (cells : List T) → IsProp (Built join c n cells)
+Built-prop code join c n cells = hlevel (Coded-set (coded_option code))
 
 -- a push onto n elements writes one cell of each row that has a span ending at the new one
 abbrev pub written : ℕ → ℕ → ℕ → Bool

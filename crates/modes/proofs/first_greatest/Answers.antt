@@ -15,7 +15,7 @@ loop-i-preserved c =
     let best = c.loop-i.best in
     elim c.if-commoner.branch [
       | then-commoner w ↦
-          (omega (arith, w.best-is), w.best-is ∙ first_moves f i best (omega arith) c.loop-i.invariant.1 (sym w.if-commoner.ensures.value))
+          (omega (arith, w.best-is), w.best-is ∙ first_moves f i best c.loop-i.invariant.1 (sym c.commoner.ensures.value ∙ w.if-commoner.true))
       | else-commoner w ↦
-          (omega (arith, w.best-is, c.loop-i.invariant.0), w.best-is ∙ first_keeps f i best (omega arith) c.loop-i.invariant.1 (sym w.if-commoner.ensures.value))
+          (omega (arith, w.best-is, c.loop-i.invariant.0), w.best-is ∙ first_keeps f i best c.loop-i.invariant.1 (sym c.commoner.ensures.value ∙ w.if-commoner.false))
     ]

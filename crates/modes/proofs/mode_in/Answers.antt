@@ -4,11 +4,6 @@ use Rattle.modes.proofs.Counting.{first_same}
 use Rattle.modes.proofs.Shows.{both_counts}
 use Rattle.modes.proofs.mode_in.Goals as goal
 
-pub overflow_sub-result : goal.overflow_sub-result
-overflow_sub-result c =
-    let n = c.first_greatest-symbol.result in
-    omega (arith, c.tally-counts.ensures.counts n c.first_greatest-symbol.ensures.small, both_counts c.args.readings.now n)
-
 pub returns : goal.returns
 returns c =
     let xs = c.args.readings.now in

@@ -1,10 +1,6 @@
 use Rattle.std.proofs.Common.{arith}
-use Rattle.spans.proofs.Powers.{rows_are}
+use Rattle.spans.proofs.Powers.{double, rows_are}
 use Rattle.spans.proofs.row_for.Goals as goal
 
-pub returns : goal.returns
-returns c = record {
-  value = omega (arith, rows_are c.args.n c.greatest_power.result c.greatest_power.ensures.reached c.greatest_power.ensures.passed);
-  reached = c.greatest_power.ensures.reached;
-  small = c.greatest_power.ensures.small;
-}
+pub returns-clause-value : goal.returns-clause-value
+returns-clause-value c = rows_are c.args.n c.ilog2.result c.ilog2.ensures.power_le (omega (arith, double c.ilog2.result))

@@ -1,5 +1,0 @@
-use Rattle.std.proofs.Common.{refl, arith}
-use Rattle.ranges.proofs.Table.new.Goals as goal
-
-pub returns : goal.returns
-returns c = record { cells = refl; lender = refl; held = refl; points = refl; built = ∣ (λ k e fits lt. absurd (omega (arith, lt))) ∣₁ }
