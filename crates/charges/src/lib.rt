@@ -13,21 +13,23 @@ pub mod levels;
 // Why a call says no, by its number. A refused call changes nothing.
 #[derive(Clone, Copy, PartialEq, Eq, Debug)]
 pub enum Refusal {
-    // a new charge: the capacity is 0 or above 1,024
+    // something new over lent memory: the capacity is 0 or above 1,024
     Capacity = 1,
     // a new charge: the level set is empty, longer than 32, not strictly rising or out of range
     LevelSet = 2,
-    // a new charge: the table is shorter than the capacity needs
+    // something new over lent memory: the table is shorter than the capacity needs
     ShortTable = 3,
     // the capacity is reached
     Full = 6,
     // the reading is not lawful
     Unlawful = 7,
-    // the segment is not one of the readings held, the place is not below their number, or the level is not offered
+    // the segment is not one of the readings held, the place is not below their number (for an insert: is past the end), or the
+    // level is not offered
     Outside = 9,
 }
 
 impl Refusal {
+    // The number that it is told by.
     pub fn number(self) -> u8
         ensures value { result ≡ refusal_number self }
     {

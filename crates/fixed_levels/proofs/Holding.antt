@@ -1,12 +1,11 @@
 -- The sums of a segment, and how large they are.
 use Rattle.std.proofs.Common.{◌≡◌, ℕ, ◌+◌, ◌-◌, ◌*◌, ◌<◌, ◌≤◌, true, List, ◌++◌, length, take, drop, ℤ, ◌+ℤ◌, nat_abs, sym, ap, ◌∙◌, subst, arith}
 use Rattle.std.specs.List.{AllByRecursion}
-use Rattle.std.proofs.ByRecursion.{All-take, All-drop}
 use Rattle.std.proofs.lemmas.List.{take-take, drop-take, take-append-drop}
 use Rattle.charges.specs.Rules.{segment}
 use Rattle.charges.proofs.Lawful.{all_from_pass}
 use Rattle.readings.specs.Numbers.{number_reading, all_numbers}
-use Rattle.readings.proofs.Segments.{length-segment}
+use Rattle.readings.proofs.Segments.{length-segment, segment_has}
 use Rattle.fixed_levels.specs.Sums.{sum_of, squares_of}
 use Rattle.fixed_levels.proofs.About.{sum-append, squares_append, sum_size, squares_size}
 
@@ -25,7 +24,7 @@ module _ (h : List ℤ) (s t : ℕ) (lt : s < t) where
   squares_cut = ap squares_of (sym cut) ∙ squares_append (take s h) (segment h s t)
 
   segment_numbers : all_numbers h ≡ true → AllByRecursion (λ x. number_reading x ≡ true) (segment h s t)
-  segment_numbers n = All-take (λ x. number_reading x ≡ true) (t - s) (drop s h) (All-drop (λ x. number_reading x ≡ true) s h (all_from_pass number_reading h n))
+  segment_numbers n = segment_has (λ x. number_reading x ≡ true) h s t (all_from_pass number_reading h n)
 
   pub sum_bound : t ≤ length h → all_numbers h ≡ true → nat_abs (sum_of (segment h s t)) ≤ (t - s) * 1000000
   sum_bound le n = subst (λ k. nat_abs (sum_of (segment h s t)) ≤ k * 1000000) (length-segment h s t le) (sum_size (segment h s t) (segment_numbers n))

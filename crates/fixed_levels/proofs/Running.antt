@@ -7,13 +7,11 @@ use Rattle.std.proofs.lemmas.Int.{ints}
 use Rattle.std.proofs.lemmas.Bool.{and_parts, and_from, eqb-true, eq-eqb}
 use Rattle.fixed_levels.specs.declared.place.Place.{Place}
 use Rattle.fixed_levels.specs.Fixed.{square}
+use Rattle.readings.proofs.Ranges.{both_int_le, int_le-itself}
 use Rattle.fixed_levels.specs.Sums.{sum_of, squares_of, readings_of, same_number, summed_from, summed}
 
-same-is : (a b : ℤ) → same_number a b ≡ true → a ≡ b
-same-is a b h = grind (arith, ints)
-
 same-itself : (a b : ℤ) → a ≡ b → same_number a b ≡ true
-same-itself a b e = grind (arith, ints)
+same-itself a b e = subst (λ x. same_number a x ≡ true) e (int_le-itself a)
 
 -- what the parts of the test say
 record Starts (a : ℤ) (b : ℕ) (p : Place) (ps : List Place) : Type 0 where
@@ -25,7 +23,7 @@ starts : (a : ℤ) (b : ℕ) (p : Place) (ps : List Place) → summed_from a b (
 starts a b p ps h =
     let one = and_parts (same_number p.sum (a +ℤ p.reading)) (eqb p.squares (b + square p.reading) && summed_from p.sum p.squares ps) h in
     let two = and_parts (eqb p.squares (b + square p.reading)) (summed_from p.sum p.squares ps) one.1 in
-    record { sum = same-is _ _ one.0; squares = eqb-true _ _ two.0; rest = two.1 }
+    record { sum = both_int_le _ _ one.0; squares = eqb-true _ _ two.0; rest = two.1 }
 
 -- the sums at a place
 sum_from : (a : ℤ) (b : ℕ) (ps : List Place) (i : ℕ) (d : Place) → summed_from a b ps ≡ true → i < length ps → (get_or ps i d).sum ≡ a +ℤ sum_of (take (suc i) (readings_of ps))

@@ -61,15 +61,6 @@ module _ (t : Totals) (l : ℤ) (number : number_reading l ≡ true) (whole : (p
   above : q + n * w ≤ 2048000000000000
   above = omega (arith, counted, t.squares_small, t.few)
 
-  pub count_fits : Fits w64 (n * w)
-  count_fits = omega (arith, counted)
-
-  pub above_fits : Fits w64 (q + n * w)
-  above_fits = omega (arith, above)
-
-  pub above_cast : SFits w64 (pos (q + n * w))
-  above_cast = let h = above in omega (arith, ints)
-
   product_small : nat_abs (l *ℤ s) ≤ 1024000000000000
   product_small = omega (arith, nat_abs_product l s, mul-le (nat_abs l) (nat_abs s) 1000000 1024000000 (number_size l number) (omega (arith, t.sum_small, t.few)))
 

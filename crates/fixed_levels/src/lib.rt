@@ -5,12 +5,14 @@
 ghost use Rattle.std.specs.Prelude.{◌≡◌, ◌+◌, ◌-◌, ◌*◌, ◌<◌, ◌≤◌, true, List, [], ◌∷◌, ◌++◌, length, take, ℤ, pos, ◌-ℤ◌, ◌*ℤ◌, ◌≤ℤ◌, Ok, Err, MatchResult, OnOk, nat_lt, cond, slice_index_or, unsigned_abs};
 ghost use Rattle.charges.specs.Rules.{segment};
 ghost use Rattle.readings.specs.Numbers.{number_reading, all_numbers};
+ghost use Rattle.level_sets.specs.Sets.{levels_of};
 ghost use Rattle.fixed_levels.specs.Fixed.{square, squared_distance_lem, best, fixed_fee, fixed_told};
 ghost use Rattle.fixed_levels.specs.Sums.{sum_of, squares_of, squares_about, readings_of, summed};
 
 use charges::Refusal;
 use level_sets::LevelSet;
 use place::Place;
+use readings::{is_capacity, test_making};
 use std::marker::Model;
 
 pub mod fixed;
@@ -103,9 +105,9 @@ impl<'a> Layer<'a> {
 
     // The best level of the set, and what this layer costs there.
     fn best(&self, set: &LevelSet) -> Choice
-        ensures level { result.level ≡ best (take set.now.len set.now.levels) self.now }
-        ensures offered { result.level < length (take set.now.len set.now.levels) }
-        ensures cost { result.cost ≡ (fixed_fee (take set.now.len set.now.levels) self.now).number }
+        ensures level { result.level ≡ best (levels_of set.now) self.now }
+        ensures offered { result.level < length (levels_of set.now) }
+        ensures cost { result.cost ≡ (fixed_fee (levels_of set.now) self.now).number }
     {
         set.as_slice()
             .iter()
@@ -150,7 +152,8 @@ struct Choice {
 }
 
 impl Choice {
-    // The cheaper of the two: at a tie this one. By `cmp::min_by_key` the proof is left open.
+    // The cheaper of the two: at a tie this one. It is written out, in one clause that says which stays at a tie; by `min_by_key` over
+    // the levels the proof is left open.
     fn or_cheaper(self, other: Choice) -> Choice
         ensures value { result ≡ cond (nat_lt other.cost self.cost) other self }
     {
@@ -160,8 +163,8 @@ impl Choice {
 
 // The level of that number.
 fn level_at(set: &LevelSet, level: usize) -> i64
-    requires offered { level < length (take set.now.len set.now.levels) }
-    ensures value { result ≡ slice_index_or (take set.now.len set.now.levels) level (pos 0) }
+    requires offered { level < length (levels_of set.now) }
+    ensures value { result ≡ slice_index_or (levels_of set.now) level (pos 0) }
     ensures number { number_reading result ≡ true }
 {
     set.as_slice()[level]
@@ -169,16 +172,14 @@ fn level_at(set: &LevelSet, level: usize) -> i64
 
 // The level set of a charge that can be made of these levels, this capacity and a table of so many places.
 fn tested(levels: &[i64], capacity: usize, table: usize) -> Result<LevelSet, Refusal>
-    ensures value { MatchResult result (λ s. (fixed_told levels.now capacity table ≡ Ok tt) × (take s.len s.levels ≡ levels.now)) (λ e. fixed_told levels.now capacity table ≡ Err e) }
+    ensures value { MatchResult result (λ s. (fixed_told levels.now capacity table ≡ Ok tt) × (levels_of s ≡ levels.now)) (λ e. fixed_told levels.now capacity table ≡ Err e) }
     ensures room { OnOk result ((capacity ≤ 1024) × (capacity ≤ table)) }
 {
-    if !(1..=1024).contains(&capacity) {
+    if !is_capacity(capacity) {
         return Err(Refusal::Capacity);
     }
     let set = LevelSet::new(levels)?;
-    if table < capacity {
-        return Err(Refusal::ShortTable);
-    }
+    test_making(capacity, capacity, table)?;
     Ok(set)
 }
 

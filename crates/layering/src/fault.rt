@@ -1,50 +1,30 @@
 // What can be wrong with the input.
 use charges::Refusal;
-use std::error::Error;
-use std::fmt;
+use thiserror::Error;
 
-#[derive(Clone, Copy, PartialEq, Eq, Debug)]
+#[derive(Clone, Copy, PartialEq, Eq, Debug, Error)]
 pub enum Complaint {
+    #[error("not a number")]
     NotANumber,
+    #[error("no reading")]
     NoReading,
-    Refused(Refusal),
+    #[error("refused ({}): {}", .0.number(), why(*.0))]
+    Refused(#[from] Refusal),
 }
 
-impl From<Refusal> for Complaint {
-    fn from(refusal: Refusal) -> Complaint {
-        Complaint::Refused(refusal)
-    }
-}
-
-impl fmt::Display for Complaint {
-    fn fmt<W: fmt::Write>(&self, f: &mut fmt::Formatter<W>) -> fmt::Result {
-        match self {
-            Complaint::NotANumber => f.write_str("not a number"),
-            Complaint::NoReading => f.write_str("no reading"),
-            Complaint::Refused(refusal) => {
-                let why = match refusal {
-                    Refusal::Full => "too many readings",
-                    Refusal::Unlawful => "the reading is not from -1000000 to 1000000",
-                    _ => "not taken",
-                };
-                write!(f, "refused ({}): {why}", refusal.number())
-            }
-        }
+// Why a number was not taken.
+fn why(refusal: Refusal) -> &'static str {
+    match refusal {
+        Refusal::Full => "too many readings",
+        Refusal::Unlawful => "the reading is not from -1000000 to 1000000",
+        _ => "not taken",
     }
 }
 
 // A complaint, and the line it is about, counted from 1.
-#[derive(Clone, Copy, PartialEq, Eq, Debug)]
+#[derive(Clone, Copy, PartialEq, Eq, Debug, Error)]
+#[error("line {line}: {complaint}")]
 pub struct Fault {
     pub line: usize,
     pub complaint: Complaint,
 }
-
-impl fmt::Display for Fault {
-    fn fmt<W: fmt::Write>(&self, f: &mut fmt::Formatter<W>) -> fmt::Result {
-        let Fault { line, complaint } = self;
-        write!(f, "line {line}: {complaint}")
-    }
-}
-
-impl Error for Fault {}

@@ -1,1 +1,2 @@
 pub mod LevelSets
+pub mod Sets

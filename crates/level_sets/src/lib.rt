@@ -9,8 +9,8 @@ ghost use Rattle.level_sets.specs.LevelSets.{rising, level_set_lawful, level_set
 use charges::Refusal;
 use readings::is_number;
 
-// 1 to 32 strictly rising levels, each a number reading. They are the first `len` of the array, which is no Vec: a charge asks
-// for no memory.
+// 1 to 32 strictly rising levels, each a number reading. They are the first `len` of the array: a charge asks for no memory, so
+// it is no Vec, and a level set can be copied, as an ArrayVec cannot.
 #[derive(Clone, Copy)]
 pub struct LevelSet {
     levels: [i64; 32],
@@ -55,7 +55,7 @@ impl LevelSet {
     }
 }
 
-// Whether a level is above the one before it.
+// Whether a level is above the one before it. It has a name, so that its clause says what the pass over the levels asks.
 fn rises(before: &i64, level: &i64) -> bool
     ensures value { result ≡ int_lt before.now level.now }
 {

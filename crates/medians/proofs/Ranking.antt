@@ -10,6 +10,7 @@ use Rattle.std.proofs.lemmas.List.Sums.{sum_by-cons, sum_by-append, sum_by_push,
 use Rattle.std.proofs.lemmas.Bool.{cases_Bool, true≢false, false≢true, eq-eqb, ne_eqb, eqb-true, and_parts, and_from}
 use Rattle.charges.specs.Rules.{segment}
 use Rattle.readings.proofs.Segments.{segment_none, segment-push}
+use Rattle.readings.proofs.Ranges.{both_int_le, int_le-itself}
 use Rattle.medians.specs.declared.place.Place.{Place}
 use Rattle.medians.specs.Ranks.{place, rank, ranked_with, ranked_from, ranked, reading_at, readings_upto, readings_of, same_places, in_rank}
 use Rattle.medians.specs.Walks.{in_segment_lem, picked}
@@ -224,12 +225,6 @@ place_is e f = cc
 places_is : (p q : Place) → p.reading ≡ q.reading → p.at ≡ q.at → p ≡ q
 places_is p q e f = place_is e f
 
-both-int_le : (a b : ℤ) → (le_z a b && le_z b a) ≡ true → a ≡ b
-both-int_le a b h = grind (arith, ints)
-
-int_le-itself : (a : ℤ) → (le_z a a && le_z a a) ≡ true
-int_le-itself a = grind (arith, ints)
-
 same_from_test : (ps qs : List Place) → same_places ps qs ≡ true → ps ≡ qs
 same_from_test [] [] h = refl
 same_from_test [] (q ∷ qs) h = absurd (false≢true h)
@@ -237,7 +232,7 @@ same_from_test (p ∷ ps) [] h = absurd (false≢true h)
 same_from_test (p ∷ ps) (q ∷ qs) h =
     let one = and_parts (le_z p.reading q.reading && le_z q.reading p.reading) (eqb p.at q.at && same_places ps qs) h in
     let two = and_parts (eqb p.at q.at) (same_places ps qs) one.1 in
-    let e = places_is p q (both-int_le _ _ one.0) (eqb-true _ _ two.0) in
+    let e = places_is p q (both_int_le _ _ one.0) (eqb-true _ _ two.0) in
     let f = same_from_test ps qs two.1 in
     cc
 

@@ -49,7 +49,8 @@ fn balance_of(places: &[Place], s: usize, t: usize, low: usize, high: usize) -> 
         .sum()
 }
 
-// The reading of the segment (s, t) with `before` others before it in rising order, if there is one.
+// The reading of the segment (s, t) with `before` others before it in rising order, if there is one. It filters as the balance does,
+// written out: a function cannot answer an iterator, whose type has no name.
 fn reading_after(places: &[Place], s: usize, t: usize, before: usize) -> Option<i64>
     ensures value { result ≡ slice_get (picked s t places.now) before }
 {

@@ -3,6 +3,7 @@ ghost use Rattle.std.specs.Prelude.{◌≡◌, ◌<◌, ◌≤◌, true, [], ◌
 ghost use Rattle.charges.specs.Rules.{segment};
 ghost use Rattle.readings.specs.Numbers.{number_reading, all_numbers};
 ghost use Rattle.readings.specs.Makings.{making_told, made_capacity};
+ghost use Rattle.lent_lists.specs.Elements.{elements, same_beyond};
 ghost use Rattle.medians.specs.Medians.{median, median_fee, median_rules};
 ghost use Rattle.medians.specs.Ranks.{held_in, in_rank};
 
@@ -14,10 +15,11 @@ use lent_lists::LentList;
 use readings::{is_number, test_segment, test_taking};
 
 // The readings held, in rising order, so that a fee or a level is one pass over them.
+// What is alike in the charges over a lent list is a line each: what each call has to say, the list or a test of all charges says.
 #[derive(Drop)]
 pub struct Median<'a> {
     list: LentList<'a, Place>,
-    ghost order: { in_rank (take list.len list.places.now) ≡ true },
+    ghost order: { in_rank (elements list) ≡ true },
     ghost numbers: { all_numbers (held_in list.places.now list.len) ≡ true },
 }
 
@@ -44,10 +46,9 @@ impl<'a> Median<'a> {
 
     // Puts in one reading more, the last one of the hole, where it stands in the rising order.
     #[tactic(auto, using(crate::proofs::Charged::put_order, crate::proofs::Charged::put_numbers))]
-    fn rank(&mut self, reading: i64) -> Result<(), Refusal>
+    fn rank(&mut self, reading: i64)
         requires room { self.old.list.len < self.old.list.capacity }
         requires number { number_reading reading ≡ true }
-        ensures answer { result ≡ Ok tt }
         ensures capacity { self.new.list.capacity ≡ self.old.list.capacity }
         ensures held { held_in self.new.list.places.now self.new.list.len ≡ held_in self.old.list.places.now self.old.list.len ++ (reading ∷ []) }
         ensures beyond { drop self.new.list.len self.new.list.places.now ≡ drop self.new.list.len self.old.list.places.now }
@@ -55,7 +56,7 @@ impl<'a> Median<'a> {
     {
         let at = self.list.len();
         let rank = rank_of(self.list.as_slice(), reading);
-        self.list.insert(rank, Place { reading, at })
+        self.list.insert(rank, Place { reading, at }).unwrap();
     }
 
     // The sum of the upper half of the readings of the segment (s, t) less that of the lower half: this is the sum of the
@@ -82,11 +83,12 @@ impl<'a> Charge for Median<'a> {
     ghost held = { λ c. held_in c.list.places.now c.list.len };
 
     // places past those that hold readings are not written, and the memory is the one that was lent
-    ghost alike = { λ c d. (drop d.list.len d.list.places.now ≡ drop d.list.len c.list.places.now) × (d.list.places.ghost_name ≡ c.list.places.ghost_name) };
+    ghost alike = { λ c d. same_beyond c.list d.list };
 
     fn take(&mut self, reading: i64) -> Result<(), Refusal> {
         test_taking(self.list.len(), self.list.capacity(), is_number(reading))?;
-        self.rank(reading)
+        self.rank(reading);
+        Ok(())
     }
 
     fn fee(&self, s: usize, t: usize) -> Result<Whole, Refusal> {
@@ -101,7 +103,7 @@ impl<'a> Charge for Median<'a> {
         test_segment(s, t, self.list.len())?;
         // the median has half of the others before it, or one less
         let before = (t - s - 1) / 2;
-        reading_after(self.list.as_slice(), s, t, before).ok_or(Refusal::Outside)
+        Ok(reading_after(self.list.as_slice(), s, t, before).unwrap())
     }
 
     fn count(&self) -> usize {

@@ -38,14 +38,15 @@ fn tally(readings: &[i64]) -> [usize; 32]
     counts
 }
 
-// Whether a symbol of this count is commoner than the best so far.
+// Whether a symbol of this count is commoner than the best so far. It has a name, so that its clause says which stays at a tie.
 fn commoner(count: usize, most: usize) -> bool
     ensures value { result ≡ not (nat_le count most) }
 {
     count > most
 }
 
-// The first symbol of the greatest count.
+// The first symbol of the greatest count. It keeps the best so far: `max_by_key` keeps the last of equals, and a chain that ends in a
+// step of our own would need a type for a symbol with its count.
 fn first_greatest(counts: &[usize; 32]) -> usize
     ensures value { result ≡ first_most (λ i. slice_index counts.now i) 31 }
     ensures small { result < 32 }

@@ -1,8 +1,9 @@
 // The mode charge over lent memory, one place for each reading.
-ghost use Rattle.std.specs.Prelude.{◌≡◌, ◌<◌, ◌≤◌, true, [], length, take, drop, IfOk};
+ghost use Rattle.std.specs.Prelude.{◌≡◌, ◌<◌, true, [], length, IfOk};
 ghost use Rattle.charges.specs.Told.{segment_told};
 ghost use Rattle.readings.specs.Symbols.{all_symbols};
 ghost use Rattle.readings.specs.Makings.{making_told, made_capacity};
+ghost use Rattle.lent_lists.specs.Elements.{elements, same_beyond};
 ghost use Rattle.modes.specs.Modes.{commonest, differing, mode as commonest_symbol, mode_rules, mode_levels};
 
 use crate::{Commonest, mode_in};
@@ -13,10 +14,11 @@ use lent_lists::LentList;
 use readings::{is_symbol, test_price, test_segment, test_taking};
 
 // The readings held, in the order of the hole.
+// What is alike in the charges over a lent list is a line each: what each call has to say, the list or a test of all charges says.
 #[derive(Drop)]
 pub struct Mode<'a> {
     list: LentList<'a, i64>,
-    ghost symbols: { all_symbols (take list.len list.places.now) ≡ true },
+    ghost symbols: { all_symbols (elements list) ≡ true },
 }
 
 impl<'a> Mode<'a> {
@@ -30,7 +32,7 @@ impl<'a> Mode<'a> {
     // A charge that holds no reading; from what the test refuses, one of capacity 0. No place is written.
     pub fn new(table: &'a mut [i64], capacity: usize) -> Mode<'a>
         ensures capacity { result.list.capacity ≡ made_capacity (making_told capacity capacity (length table.old)) capacity }
-        ensures held { take result.list.len result.list.places.now ≡ [] }
+        ensures held { elements result.list ≡ [] }
         ensures table { result.list.places.now ≡ table.old }
         ensures lender { result.list.places.ghost_name ≡ table.entry.ghost_name }
     {
@@ -41,7 +43,7 @@ impl<'a> Mode<'a> {
 
     // The commonest symbol of the segment (s, t), and how many of its readings differ from it.
     fn mode_of(&self, s: usize, t: usize) -> Result<Commonest, Refusal>
-        ensures value { result ≡ segment_told (λ u. record { symbol = commonest u; others = differing u (commonest u) }) (take self.now.list.len self.now.list.places.now) s t }
+        ensures value { result ≡ segment_told (λ u. record { symbol = commonest u; others = differing u (commonest u) }) (elements self.now.list) s t }
         ensures small { IfOk result (λ m. m.symbol < 32) }
     {
         test_segment(s, t, self.list.len())?;
@@ -56,10 +58,10 @@ impl<'a> Charge for Mode<'a> {
 
     ghost leveling = { λ c. commonest_symbol };
 
-    ghost held = { λ c. take c.list.len c.list.places.now };
+    ghost held = { λ c. elements c.list };
 
     // places past those that hold readings are not written, and the memory is the one that was lent
-    ghost alike = { λ c d. (drop d.list.len d.list.places.now ≡ drop d.list.len c.list.places.now) × (d.list.places.ghost_name ≡ c.list.places.ghost_name) };
+    ghost alike = { λ c d. same_beyond c.list d.list };
 
     fn take(&mut self, reading: i64) -> Result<(), Refusal> {
         test_taking(self.list.len(), self.list.capacity(), is_symbol(reading))?;
@@ -103,10 +105,10 @@ impl<'a> LevelCharge for Mode<'a> {
     }
 
     fn price(&self, place: usize, level: usize) -> Result<Whole, Refusal> {
-        test_price(place, self.list.len(), level, 32)?;
+        test_price(place, self.list.len(), level, self.count_levels())?;
         let same = self.list.as_slice()[place] == level as i64;
         Ok(Whole {
-            number: if same { 0 } else { 1 },
+            number: u64::from(!same),
         })
     }
 }

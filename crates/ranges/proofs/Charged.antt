@@ -1,12 +1,12 @@
 -- What a range charge holds and tells, from what its table holds.
-use Rattle.std.proofs.Common.{◌≡◌, ℕ, ◌-◌, ◌≤◌, true, List, length, take, drop, Result, refl}
+use Rattle.std.proofs.Common.{◌≡◌, ℕ, ◌≤◌, true, List, length, take, Result, refl}
 use Rattle.std.specs.Prelude.{IfOk}
-use Rattle.std.proofs.ByRecursion.{All-take, All-drop}
 use Rattle.charges.specs.Rules.{Held}
 use Rattle.charges.specs.Told.{segment_told}
 use Rattle.charges.specs.declared.Refusal.{Refusal}
 use Rattle.charges.proofs.Lawful.{pass_from_all}
 use Rattle.readings.specs.Numbers.{number_reading}
+use Rattle.readings.proofs.Segments.{segment_has}
 use Rattle.spans.specs.Joinings.{joined_told}
 use Rattle.spans.specs.Rows.{cells_for}
 use Rattle.spans.proofs.Kept.{held_kept, layer, told_kept, told_has}
@@ -26,4 +26,4 @@ module _ (capacity count : ℕ) (cells : List Extent) (few : count ≤ capacity)
     pub ends_numbers : (r : Result Extent Refusal) → r ≡ segment_told (λ u. extent (lowest u) (highest u)) (held_in cells count) s t → IfOk r (λ e. (number_reading e.low ≡ true) × (number_reading e.high ≡ true))
     ends_numbers =
         told_has low_of capacity count cells few small room s t (λ u. extent (lowest u) (highest u)) (λ e. (number_reading e.low ≡ true) × (number_reading e.high ≡ true))
-        (λ some. number_ends _ some (All-take _ (t - s) (drop s (held_in cells count)) (All-drop _ s (held_in cells count) (points_numbers (take count cells) points))))
+        (λ some. number_ends _ some (segment_has _ (held_in cells count) s t (points_numbers (take count cells) points)))

@@ -2,9 +2,9 @@
 use Rattle.std.proofs.Common.{◌≡◌, ◌<◌, true, ◌&&◌, List, [], ◌∷◌, ◌++◌, map, length, ℤ, Some, sym, refl, ap, ap₂, arith}
 use Rattle.std.specs.Prelude.{int_le, int_lt}
 use Rattle.std.specs.List.{AllByRecursion}
-use Rattle.std.proofs.lemmas.Int.{ints}
 use Rattle.std.proofs.lemmas.Bool.{and_parts, and_from, cond_both}
 use Rattle.readings.specs.Numbers.{number_reading}
+use Rattle.readings.proofs.Ranges.{both_int_le, int_le-itself}
 use Rattle.spans.specs.Joinings.{both, joining}
 use Rattle.ranges.specs.declared.extent.Extent.{Extent}
 use Rattle.ranges.specs.Ranges.{lowest, highest, lowest_of, highest_of}
@@ -16,15 +16,12 @@ Number x = number_reading x ≡ true
 abbrev pub low_of : Extent → ℤ
 low_of e = e.low
 
-same : (x y : ℤ) → (int_le x y && int_le y x) ≡ true → x ≡ y
-same x y h = let p = and_parts (int_le x y) (int_le y x) h in grind (arith, ints, p.0, p.1)
-
 pub points_are : (es : List Extent) → all_points es ≡ true → es ≡ map point (map low_of es)
 points_are [] h = refl
 points_are (e ∷ es) h =
     let p = and_parts (int_le e.low e.high && int_le e.high e.low) (number_reading e.low && all_points es) h in
     let q = and_parts (number_reading e.low) (all_points es) p.1 in
-    ap₂ (λ x xs. x ∷ xs) (ap (extent e.low) (sym (same e.low e.high p.0))) (points_are es q.1)
+    ap₂ (λ x xs. x ∷ xs) (ap (extent e.low) (sym (both_int_le e.low e.high p.0))) (points_are es q.1)
 
 pub points_numbers : (es : List Extent) → all_points es ≡ true → AllByRecursion Number (map low_of es)
 points_numbers [] h = tt
@@ -33,11 +30,8 @@ points_numbers (e ∷ es) h =
     let q = and_parts (number_reading e.low) (all_points es) p.1 in
     (q.0, points_numbers es q.1)
 
-itself : (x : ℤ) → int_le x x ≡ true
-itself x = grind (arith, ints)
-
 pub points_push : (es : List Extent) (x : ℤ) → all_points es ≡ true → Number x → all_points (es ++ (point x ∷ [])) ≡ true
-points_push [] x h n = and_from _ _ (and_from _ _ (itself x) (itself x)) (and_from _ _ n refl)
+points_push [] x h n = and_from _ _ (int_le-itself x) (and_from _ _ n refl)
 points_push (e ∷ es) x h n =
     let p = and_parts (int_le e.low e.high && int_le e.high e.low) (number_reading e.low && all_points es) h in
     let q = and_parts (number_reading e.low) (all_points es) p.1 in

@@ -6,3 +6,18 @@ pub struct Extent {
     pub low: i64,
     pub high: i64,
 }
+
+// The extent of one reading.
+impl From<i64> for Extent {
+    ghost use Rattle.std.specs.Prelude.{◌≡◌};
+    ghost use Rattle.ranges.specs.Extents.{point};
+
+    ghost from_gives = { λ x e. e ≡ point x };
+
+    fn from(reading: i64) -> Extent {
+        Extent {
+            low: reading,
+            high: reading,
+        }
+    }
+}

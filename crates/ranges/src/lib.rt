@@ -5,7 +5,7 @@
 ghost use Rattle.std.specs.Prelude.{◌≡◌, ◌*◌, ◌≤◌, true, ◌-ℤ◌, unsigned_abs};
 ghost use Rattle.readings.specs.Numbers.{number_reading};
 ghost use Rattle.ranges.specs.Ranges.{middle};
-ghost use Rattle.ranges.specs.Extents.{hull, point};
+ghost use Rattle.ranges.specs.Extents.{hull};
 ghost use Rattle.ranges.specs.Hulls.{hull_assoc, hull_comm, hull_idem};
 
 use extent::Extent;
@@ -31,31 +31,23 @@ impl Joining for Extent {
     }
 }
 
-// The extent of one reading.
-fn point_of(reading: i64) -> Extent
-    ensures value { result ≡ point reading }
-{
-    Extent {
-        low: reading,
-        high: reading,
+impl Extent {
+    // What a layer of so many readings costs that have this extent.
+    fn fee(self, readings: usize) -> u64
+        requires few { readings ≤ 1024 }
+        requires low_number { number_reading self.low ≡ true }
+        requires high_number { number_reading self.high ≡ true }
+        ensures value { result ≡ readings * unsigned_abs (self.high -ℤ self.low) }
+    {
+        readings as u64 * self.high.abs_diff(self.low)
     }
-}
 
-// What a layer of so many readings costs whose lowest and highest are these.
-fn fee_between(readings: usize, low: i64, high: i64) -> u64
-    requires few { readings ≤ 1024 }
-    requires low_number { number_reading low ≡ true }
-    requires high_number { number_reading high ≡ true }
-    ensures value { result ≡ readings * unsigned_abs (high -ℤ low) }
-{
-    readings as u64 * high.abs_diff(low)
-}
-
-// The middle between two readings, rounded toward zero.
-fn middle_of(low: i64, high: i64) -> i64
-    requires low_number { number_reading low ≡ true }
-    requires high_number { number_reading high ≡ true }
-    ensures value { result ≡ middle low high }
-{
-    (low + high) / 2
+    // The middle between lowest and highest, rounded toward zero.
+    fn middle(self) -> i64
+        requires low_number { number_reading self.low ≡ true }
+        requires high_number { number_reading self.high ≡ true }
+        ensures value { result ≡ middle self.low self.high }
+    {
+        (self.low + self.high) / 2
+    }
 }

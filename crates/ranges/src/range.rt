@@ -1,14 +1,14 @@
 // The range charge over lent memory, a span table of extents.
-ghost use Rattle.std.specs.Prelude.{◌≡◌, ◌<◌, ◌≤◌, true, [], length, take, drop, IfOk, OnOk};
+ghost use Rattle.std.specs.Prelude.{◌≡◌, ◌<◌, ◌≤◌, true, [], length, IfOk, OnOk};
 ghost use Rattle.charges.specs.Told.{segment_told};
 ghost use Rattle.readings.specs.Numbers.{number_reading};
 ghost use Rattle.readings.specs.Makings.{making_told, made_capacity};
+ghost use Rattle.spans.specs.Tables.{elements, same_past};
 ghost use Rattle.spans.specs.Rows.{cells_for};
 ghost use Rattle.ranges.specs.Ranges.{lowest, highest, range_level, range_rules};
 ghost use Rattle.ranges.specs.Extents.{extent, all_points, held_in};
 
 use crate::extent::Extent;
-use crate::{fee_between, middle_of, point_of};
 use amounts::Whole;
 use charges::{Charge, Refusal};
 use readings::{is_number, test_taking};
@@ -20,7 +20,7 @@ use spans::table::Spans;
 #[derive(Drop)]
 pub struct Range<'a> {
     spans: Spans<'a, Extent>,
-    ghost points: { all_points (take spans.count spans.cells.now) ≡ true },
+    ghost points: { all_points (elements spans) ≡ true },
 }
 
 impl<'a> Range<'a> {
@@ -63,7 +63,7 @@ impl<'a> Charge for Range<'a> {
     ghost held = { λ c. held_in c.spans.cells.now c.spans.count };
 
     // cells past what the capacity needs are never written, and the memory is the one that was lent
-    ghost alike = { λ c d. (drop (cells_for c.spans.capacity) d.spans.cells.now ≡ drop (cells_for c.spans.capacity) c.spans.cells.now) × (d.spans.cells.ghost_name ≡ c.spans.cells.ghost_name) };
+    ghost alike = { λ c d. same_past c.spans d.spans };
 
     #[tactic(auto, using(crate::proofs::Extents::points_push))]
     fn take(&mut self, reading: i64) -> Result<(), Refusal> {
@@ -72,19 +72,19 @@ impl<'a> Charge for Range<'a> {
             self.spans.capacity(),
             is_number(reading),
         )?;
-        self.spans.push(point_of(reading))
+        self.spans.push(Extent::from(reading))
     }
 
     fn fee(&self, s: usize, t: usize) -> Result<Whole, Refusal> {
         let ends = self.ends(s, t)?;
         Ok(Whole {
-            number: fee_between(t - s, ends.low, ends.high),
+            number: ends.fee(t - s),
         })
     }
 
     fn level(&self, s: usize, t: usize) -> Result<i64, Refusal> {
         let ends = self.ends(s, t)?;
-        Ok(middle_of(ends.low, ends.high))
+        Ok(ends.middle())
     }
 
     fn count(&self) -> usize {

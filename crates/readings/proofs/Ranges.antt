@@ -1,9 +1,16 @@
 -- How large a number reading is.
-use Rattle.std.proofs.Common.{◌≡◌, ◌≤◌, true, ℤ, pos, negsuc, ◌-ℤ◌, nat_abs, ◌≤ℤ◌, arith}
+use Rattle.std.proofs.Common.{◌≡◌, ◌≤◌, true, ◌&&◌, ℤ, pos, negsuc, ◌-ℤ◌, nat_abs, ◌≤ℤ◌, arith}
 use lib.Signed.{le_z}
 use Rattle.std.proofs.lemmas.Int.{ints}
 use Rattle.std.proofs.lemmas.Bool.{and_parts}
 use Rattle.readings.specs.Numbers.{number_reading}
+
+-- two numbers, neither above the other
+pub both_int_le : (a b : ℤ) → (le_z a b && le_z b a) ≡ true → a ≡ b
+both_int_le a b h = grind (arith, ints)
+
+pub int_le-itself : (a : ℤ) → (le_z a a && le_z a a) ≡ true
+int_le-itself a = grind (arith, ints)
 
 int_le_le : (a b : ℤ) → le_z a b ≡ true → a ≤ℤ b
 int_le_le a b h = grind (arith, ints)

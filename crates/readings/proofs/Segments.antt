@@ -1,8 +1,8 @@
 -- Segments of the readings held.
-use Rattle.std.proofs.Common.{◌≡◌, ℕ, ◌+◌, ◌-◌, ◌<◌, ◌≤◌, Bool, true, cond, ◌&&◌, ltb, leb, List, [], ◌∷◌, ◌++◌, length, take, drop, ℤ, sym, ap, ◌∙◌, ⊎_elim, append-nil, arith, length-drop, length-take}
-use Rattle.std.specs.List.{list_all}
+use Rattle.std.proofs.Common.{◌≡◌, ℕ, ◌-◌, ◌<◌, ◌≤◌, Bool, true, cond, ◌&&◌, ltb, leb, List, [], ◌∷◌, ◌++◌, length, take, drop, ℤ, sym, ap, ◌∙◌, ⊎_elim, append-nil, arith, length-drop, length-take}
+use Rattle.std.specs.List.{list_all, AllByRecursion}
 use Rattle.std.proofs.ByRecursion.{All-take, All-drop}
-use Rattle.std.proofs.lemmas.List.{length_push, take_all, take-take, drop-take, take-append-le, drop_all, drop-append-le}
+use Rattle.std.proofs.lemmas.List.{length_push, take_all, take-append-le, drop_all, drop-append-le}
 use Rattle.std.proofs.lemmas.Bool.{cases_lt, lt-ltb, le-ltb, le-leb, lt-leb, and_from, and_left, and_right}
 use Rattle.charges.specs.Rules.{segment}
 use Rattle.charges.proofs.Lawful.{all_from_pass, pass_from_all}
@@ -16,10 +16,14 @@ segment_all h = take_all (length h - 0) h (omega arith)
 pub segment_none : (s t : ℕ) → segment [] s t ≡ []
 segment_none s t = ap (take (t - s)) (drop_all {X = ℤ} s [] (omega arith)) ∙ take_all {A = ℤ} (t - s) [] (omega arith)
 
+-- what is so of all readings is so of those of a segment
+pub segment_has : (P : ℤ → Type 0) (l : List ℤ) (s t : ℕ) → AllByRecursion P l → AllByRecursion P (segment l s t)
+segment_has P l s t a = All-take P (t - s) (drop s l) (All-drop P s l a)
+
 -- what all readings pass, those of a segment do
 pub segment_passes : (p : ℤ → Bool) (l : List ℤ) (s t : ℕ) → list_all p l ≡ true → list_all p (segment l s t) ≡ true
 segment_passes p l s t h =
-    pass_from_all p (segment l s t) (All-take (λ x. p x ≡ true) (t - s) (drop s l) (All-drop (λ x. p x ≡ true) s l (all_from_pass p l h)))
+    pass_from_all p (segment l s t) (segment_has (λ x. p x ≡ true) l s t (all_from_pass p l h))
 
 -- one reading more stands in the segments that reach past it
 module _ (h : List ℤ) (x : ℤ) (s t : ℕ) where

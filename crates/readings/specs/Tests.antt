@@ -1,4 +1,5 @@
--- What the tests before a charge takes a reading or answers a question say; they run from the top down.
+-- What the tests before a charge takes a reading or answers a question say, of numbers alone; they run from the top down. Of a charge's
+-- rules and the readings held, Told and Levels of charges say the same.
 use Rattle.std.specs.Prelude.{ℕ, Bool, cond, ◌&&◌, Ok, Err, Result, nat_le, nat_lt}
 use Rattle.charges.specs.declared.Refusal.{Refusal}
 use Rattle.charges.specs.declared.Refusal.TheVariants.{Full, Unlawful, Outside}

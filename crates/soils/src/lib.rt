@@ -2,7 +2,7 @@
 // Here is what is worked out from a set of symbols.
 #![tactic(auto)]
 
-ghost use Rattle.std.specs.Prelude.{◌≡◌, ◌-◌, ◌*◌, ◌≤◌, true, pos};
+ghost use Rattle.std.specs.Prelude.{◌≡◌, ◌-◌, ◌*◌, ◌≤◌, true};
 ghost use Rattle.readings.specs.Symbols.{symbol_reading};
 ghost use Rattle.soils.specs.Sets.{single, symbol_of, union};
 ghost use Rattle.soils.specs.Unions.{union_assoc, union_comm, union_idem};
@@ -29,7 +29,7 @@ impl Joining for Symbols {
     }
 }
 
-// The set of one symbol.
+// The set of one symbol. It is no From: a number above 31 has none.
 fn single_of(reading: i64) -> Symbols
     requires symbol { symbol_reading reading ≡ true }
     ensures value { result ≡ single reading }
@@ -46,11 +46,4 @@ fn fee_for(readings: usize, kinds: u32) -> u64
     ensures value { result ≡ readings * (kinds - 1) }
 {
     readings as u64 * u64::from(kinds.saturating_sub(1))
-}
-
-// The set written as a number.
-fn number_of(found: Symbols) -> i64
-    ensures value { result ≡ pos found.bits }
-{
-    i64::from(found.bits)
 }

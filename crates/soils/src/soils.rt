@@ -1,14 +1,15 @@
 // The soils charge over lent memory, a span table of sets of symbols.
-ghost use Rattle.std.specs.Prelude.{◌≡◌, ◌<◌, ◌≤◌, true, [], length, take, drop, count_ones, IfOk, OnOk};
+ghost use Rattle.std.specs.Prelude.{◌≡◌, ◌<◌, ◌≤◌, true, [], length, count_ones, IfOk, OnOk};
 ghost use Rattle.charges.specs.Rules.{segment};
 ghost use Rattle.charges.specs.Told.{segment_told};
 ghost use Rattle.readings.specs.Makings.{making_told, made_capacity};
+ghost use Rattle.spans.specs.Tables.{elements, same_past};
 ghost use Rattle.spans.specs.Rows.{cells_for};
 ghost use Rattle.soils.specs.Soils.{different, set_of, soils_level, soils_rules};
 ghost use Rattle.soils.specs.Sets.{symbols, all_single, held_in};
 
 use crate::symbols::Symbols;
-use crate::{fee_for, number_of, single_of};
+use crate::{fee_for, single_of};
 use amounts::Whole;
 use charges::{Charge, Refusal};
 use readings::{is_symbol, test_taking};
@@ -20,7 +21,7 @@ use spans::table::Spans;
 #[derive(Drop)]
 pub struct Soils<'a> {
     spans: Spans<'a, Symbols>,
-    ghost singles: { all_single (take spans.count spans.cells.now) ≡ true },
+    ghost singles: { all_single (elements spans) ≡ true },
 }
 
 impl<'a> Soils<'a> {
@@ -63,7 +64,7 @@ impl<'a> Charge for Soils<'a> {
     ghost held = { λ c. held_in c.spans.cells.now c.spans.count };
 
     // cells past what the capacity needs are never written, and the memory is the one that was lent
-    ghost alike = { λ c d. (drop (cells_for c.spans.capacity) d.spans.cells.now ≡ drop (cells_for c.spans.capacity) c.spans.cells.now) × (d.spans.cells.ghost_name ≡ c.spans.cells.ghost_name) };
+    ghost alike = { λ c d. same_past c.spans d.spans };
 
     #[tactic(auto, using(crate::proofs::Singles::singles_push))]
     fn take(&mut self, reading: i64) -> Result<(), Refusal> {
@@ -84,7 +85,7 @@ impl<'a> Charge for Soils<'a> {
 
     fn level(&self, s: usize, t: usize) -> Result<i64, Refusal> {
         let found = self.found(s, t)?; // to tell the level
-        Ok(number_of(found))
+        Ok(i64::from(found))
     }
 
     fn count(&self) -> usize {

@@ -5,3 +5,14 @@
 pub struct Symbols {
     pub bits: u32,
 }
+
+// The set written as a number.
+impl From<Symbols> for i64 {
+    ghost use Rattle.std.specs.Prelude.{◌≡◌, pos};
+
+    ghost from_gives = { λ found n. n ≡ pos found.bits };
+
+    fn from(found: Symbols) -> i64 {
+        i64::from(found.bits)
+    }
+}

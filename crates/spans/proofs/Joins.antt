@@ -14,10 +14,6 @@ between_split i m j xs p q =
     ∙ ap (λ l. between i m xs ++ take (j - m) l) (drop-drop (m - i) i xs ∙ ap (λ n. drop n xs) f))
 
 module _ {T : Type 0} (join : T → T → T) (assoc : (x y z : T) → join (join x y) z ≡ join x (join y z)) where
-  both_none : (a : Option T) → both join a None ≡ a
-  both_none None = refl
-  both_none (Some x) = refl
-
   pub both_assoc : (a b c : Option T) → both join (both join a b) c ≡ both join a (both join b c)
   both_assoc None b c = refl
   both_assoc (Some x) None c = refl

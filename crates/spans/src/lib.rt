@@ -8,7 +8,7 @@ ghost use Rattle.spans.specs.Joinings.{joined_told};
 ghost use Rattle.spans.specs.Rows.{row_count, cells_for, cell, Built, pushed_cell, ready, push_told, joined_cells_lem, joined_cells_told};
 
 use charges::Refusal;
-use readings::{test_making, test_segment};
+use readings::{is_capacity, test_making, test_segment};
 
 pub mod table;
 
@@ -36,17 +36,6 @@ fn row_for(n: usize) -> u32
     n.ilog2()
 }
 
-// How many cells a span table of this capacity needs. No table has a capacity of 0 or above 1,024.
-fn cells_needed(capacity: usize) -> usize
-    ensures value { capacity ≤ 1024 → result ≡ cells_for capacity }
-    ensures told { (table : ℕ) → making_told capacity result table ≡ making_told capacity (cells_for capacity) table }
-{
-    if !(1..=1024).contains(&capacity) {
-        return 0;
-    }
-    capacity * (row_for(capacity) as usize + 1)
-}
-
 // Joins two cells, and puts that into a third.
 fn fill<T: Joining>(cells: &mut [T], left: usize, right: usize, i: usize)
     requires left { left < length cells.old }
@@ -59,7 +48,7 @@ fn fill<T: Joining>(cells: &mut [T], left: usize, right: usize, i: usize)
 
 // Puts an element behind the first `count`, and works out one span a row: from two of each row, the one of the next.
 // Cells and capacity stand apart here and below: a struct over a `&mut` slice for this and one over a `&` slice for the joining
-// would be made for one use each.
+// would each be made by two callers to be opened by one function.
 fn push_in<T: Joining>(cells: &mut [T], capacity: usize, count: usize, element: T)
     requires small { capacity ≤ 1024 }
     requires room { cells_for capacity ≤ length cells.old }
@@ -109,14 +98,19 @@ fn is_ready<T: Joining>(cells: &[T], capacity: usize) -> bool
     test_table(cells, capacity).is_ok()
 }
 
-// Whether a span table of this capacity can be made over the cells.
+// Whether a span table of this capacity can be made over the cells. It stood beside the table's own test, which is the same.
 pub fn test_table<T: Joining>(cells: &[T], capacity: usize) -> Result<(), Refusal>
     ensures value { result ≡ making_told capacity (cells_for capacity) (length cells.now) }
 {
-    test_making(capacity, cells_needed(capacity), cells.len())
+    if !is_capacity(capacity) {
+        return Err(Refusal::Capacity);
+    }
+    let needed = capacity * (row_for(capacity) as usize + 1);
+    test_making(capacity, needed, cells.len())
 }
 
-// Puts an element behind the first `count`, and works out one span a row. It takes the cells as they are: what they mean, their owner knows.
+// Puts an element behind the first `count`, and works out one span a row. It takes the cells as they are: what they mean,
+// their owner knows. It stays public beside the span table for such an owner, as the next does.
 pub fn push_cells<T: Joining>(
     cells: &mut [T],
     capacity: usize,
