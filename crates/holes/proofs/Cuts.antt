@@ -1,14 +1,11 @@
 -- Segments cut in two, lengthened by one reading, or of a longer hole.
-use Rattle.std.proofs.Common.{◌≡◌, ℕ, suc, ◌+◌, ◌-◌, ◌<◌, ◌≤◌, List, [], ◌∷◌, ◌++◌, length, get_or, take, drop, ℤ, pos, ap, ◌∙◌, arith, length-drop, take-add}
-use Rattle.std.proofs.lemmas.List.{drop-drop, take_more, drop-append-le, take-append-le, get_or-drop}
+use Rattle.readings.proofs.Segments.{cut_at}
+use Rattle.std.proofs.Common.{◌≡◌, ℕ, suc, ◌+◌, ◌-◌, ◌<◌, ◌≤◌, List, [], ◌∷◌, ◌++◌, length, get_or, take, drop, ℤ, pos, ap, ◌∙◌, arith, length-drop}
+use Rattle.std.proofs.lemmas.List.{take_more, drop-append-le, take-append-le, get_or-drop}
 use Rattle.charges.specs.Rules.{segment}
 
 pub segment_cut : (h : List ℤ) (s u t : ℕ) → s ≤ u → u ≤ t → segment h s t ≡ segment h s u ++ segment h u t
-segment_cut h s u t su ut =
-    let e : t - s ≡ (u - s) + (t - u) = omega arith in
-    let f : s + (u - s) ≡ u = omega arith in
-    ap (λ n. take n (drop s h)) e
-    ∙ (take-add (u - s) (t - u) (drop s h) ∙ ap (λ l. segment h s u ++ take (t - u) l) (drop-drop (u - s) s h ∙ ap (λ n. drop n h) f))
+segment_cut h s u t su ut = cut_at h s u t su ut
 
 pub segment_more : (h : List ℤ) (s t : ℕ) → s ≤ t → t < length h → segment h s (suc t) ≡ segment h s t ++ (get_or h t (pos 0) ∷ [])
 segment_more h s t st lt =

@@ -1,5 +1,7 @@
 -- The range charge shows the laws.
-use Rattle.std.proofs.Common.{◌≡◌, ℕ, ◌+◌, ◌*◌, ◌<◌, ◌≤◌, true, List, [], ◌∷◌, ◌++◌, length, ℤ, ◌-ℤ◌, nat_abs, ◌≤ℤ◌, sym, refl, ap, ◌∙◌, subst, ap₂, add-mul, arith, length-append}
+use Rattle.ranges.specs.Hulls.{min_assoc, max_assoc}
+use Rattle.readings.proofs.Segments.{parts_cost}
+use Rattle.std.proofs.Common.{◌≡◌, ℕ, ◌+◌, ◌*◌, ◌<◌, ◌≤◌, true, List, [], ◌∷◌, ◌++◌, length, ℤ, ◌-ℤ◌, nat_abs, ◌≤ℤ◌, sym, refl, ap, ◌∙◌, subst, ap₂, arith}
 use Rattle.std.specs.Int.{int_min, int_max}
 use Rattle.std.specs.List.{AllByRecursion}
 use Rattle.std.proofs.lemmas.Nat.{mul-le}
@@ -15,17 +17,11 @@ use Rattle.ranges.proofs.Extents.{number_ends}
 
 lowest-append : (x y : ℤ) (xs ys : List ℤ) → lowest_of x (xs ++ (y ∷ ys)) ≡ int_min (lowest_of x xs) (lowest_of y ys)
 lowest-append x y [] ys = refl
-lowest-append x y (z ∷ zs) ys = ap (int_min x) (lowest-append z y zs ys) ∙ turn x (lowest_of z zs) (lowest_of y ys)
-  where
-    turn : (a b c : ℤ) → int_min a (int_min b c) ≡ int_min (int_min a b) c
-    turn a b c = omega (arith, ints, clamps)
+lowest-append x y (z ∷ zs) ys = ap (int_min x) (lowest-append z y zs ys) ∙ sym (min_assoc x (lowest_of z zs) (lowest_of y ys))
 
 highest-append : (x y : ℤ) (xs ys : List ℤ) → highest_of x (xs ++ (y ∷ ys)) ≡ int_max (highest_of x xs) (highest_of y ys)
 highest-append x y [] ys = refl
-highest-append x y (z ∷ zs) ys = ap (int_max x) (highest-append z y zs ys) ∙ turn x (highest_of z zs) (highest_of y ys)
-  where
-    turn : (a b c : ℤ) → int_max a (int_max b c) ≡ int_max (int_max a b) c
-    turn a b c = omega (arith, ints, clamps)
+highest-append x y (z ∷ zs) ys = ap (int_max x) (highest-append z y zs ys) ∙ sym (max_assoc x (highest_of z zs) (highest_of y ys))
 
 min-below : (a b : ℤ) → int_min a b ≤ℤ a
 min-below a b = omega (arith, ints, clamps)
@@ -64,13 +60,7 @@ part_range (x ∷ xs) (y ∷ ys) p q =
     )
 
 range-splits : (u v : List ℤ) → 0 < length u → 0 < length v → length u * range u + length v * range v ≤ length (u ++ v) * range (u ++ v)
-range-splits u v p q =
-    let r = part_range u v p q in
-    let m = range (u ++ v) in
-    let a = mul-le (length u) (range u) (length u) m (omega arith) r.0 in
-    let b = mul-le (length v) (range v) (length v) m (omega arith) r.1 in
-    let e = ap (λ n. n * m) (length-append u v) ∙ add-mul (length u) (length v) m in
-    omega (arith, a, b, e)
+range-splits u v p q = let r = part_range u v p q in parts_cost u v (range u) (range v) (range (u ++ v)) r.0 r.1
 
 range-weight : (u : List ℤ) → 0 < length u → AllByRecursion (λ x. number_reading x ≡ true) u → length u * range u ≤ length u * 2000000
 range-weight u p a = let n = number_ends u p a in mul-le (length u) (range u) (length u) 2000000 (omega arith) (number_apart (highest u) (lowest u) n.1 n.0)

@@ -6,10 +6,10 @@ use Rattle.std.proofs.lemmas.Int.{ints, clamps}
 use Rattle.ranges.specs.declared.extent.Extent.{Extent}
 use Rattle.ranges.specs.Extents.{extent, hull}
 
-min_assoc : (a b c : ℤ) → int_min (int_min a b) c ≡ int_min a (int_min b c)
+pub min_assoc : (a b c : ℤ) → int_min (int_min a b) c ≡ int_min a (int_min b c)
 min_assoc a b c = omega (arith, ints, clamps)
 
-max_assoc : (a b c : ℤ) → int_max (int_max a b) c ≡ int_max a (int_max b c)
+pub max_assoc : (a b c : ℤ) → int_max (int_max a b) c ≡ int_max a (int_max b c)
 max_assoc a b c = omega (arith, ints, clamps)
 
 min_comm : (a b : ℤ) → int_min a b ≡ int_min b a

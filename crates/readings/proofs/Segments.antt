@@ -1,9 +1,10 @@
 -- Segments of the readings held.
-use Rattle.std.proofs.Common.{◌≡◌, ℕ, ◌-◌, ◌<◌, ◌≤◌, Bool, true, cond, ◌&&◌, ltb, leb, List, [], ◌∷◌, ◌++◌, length, take, drop, ℤ, sym, ap, ◌∙◌, ⊎_elim, append-nil, arith, length-drop, length-take}
+use Rattle.std.proofs.Common.{◌≡◌, ℕ, ◌-◌, ◌<◌, ◌≤◌, Bool, true, cond, ◌&&◌, ltb, leb, List, [], ◌∷◌, ◌++◌, length, take, drop, ℤ, sym, ap, ◌∙◌, ⊎_elim, append-nil, arith, length-drop, length-take, ◌+◌, ◌*◌, add-mul, length-append, take-add}
 use Rattle.std.specs.List.{list_all, AllByRecursion}
 use Rattle.std.proofs.ByRecursion.{All-take, All-drop}
-use Rattle.std.proofs.lemmas.List.{length_push, take_all, take-append-le, drop_all, drop-append-le}
+use Rattle.std.proofs.lemmas.List.{length_push, take_all, take-append-le, drop_all, drop-append-le, drop-drop}
 use Rattle.std.proofs.lemmas.Bool.{cases_lt, lt-ltb, le-ltb, le-leb, lt-leb, and_from, and_left, and_right}
+use Rattle.std.proofs.lemmas.Nat.{mul-le}
 use Rattle.charges.specs.Rules.{segment}
 use Rattle.charges.proofs.Lawful.{all_from_pass, pass_from_all}
 
@@ -15,6 +16,20 @@ segment_all h = take_all (length h - 0) h (omega arith)
 
 pub segment_none : (s t : ℕ) → segment [] s t ≡ []
 segment_none s t = ap (take (t - s)) (drop_all {X = ℤ} s [] (omega arith)) ∙ take_all {A = ℤ} (t - s) [] (omega arith)
+
+-- what lies from s to t, cut at u
+pub cut_at : {X : Type 0} (l : List X) (s u t : ℕ) → s ≤ u → u ≤ t → take (t - s) (drop s l) ≡ take (u - s) (drop s l) ++ take (t - u) (drop u l)
+cut_at l s u t su ut =
+    let e : t - s ≡ (u - s) + (t - u) = omega arith in
+    let f : s + (u - s) ≡ u = omega arith in
+    ap (λ n. take n (drop s l)) e
+    ∙ (take-add (u - s) (t - u) (drop s l) ∙ ap (λ r. take (u - s) (drop s l) ++ take (t - u) r) (drop-drop (u - s) s l ∙ ap (λ n. drop n l) f))
+
+-- two parts, each at a price for each of its readings that is no more than m
+pub parts_cost : (u v : List ℤ) (a b m : ℕ) → a ≤ m → b ≤ m → length u * a + length v * b ≤ length (u ++ v) * m
+parts_cost u v a b m p q =
+    let e = ap (λ n. n * m) (length-append u v) ∙ add-mul (length u) (length v) m in
+    omega (arith, mul-le (length u) a (length u) m (omega arith) p, mul-le (length v) b (length v) m (omega arith) q, e)
 
 -- what is so of all readings is so of those of a segment
 pub segment_has : (P : ℤ → Type 0) (l : List ℤ) (s t : ℕ) → AllByRecursion P l → AllByRecursion P (segment l s t)

@@ -1,5 +1,6 @@
 -- The soils charge shows the laws.
-use Rattle.std.proofs.Common.{ℕ, ◌+◌, ◌-◌, ◌*◌, ◌≤◌, List, ◌++◌, length, ℤ, ap, ◌∙◌, add-mul, arith, length-append}
+use Rattle.readings.proofs.Segments.{parts_cost}
+use Rattle.std.proofs.Common.{ℕ, ◌+◌, ◌-◌, ◌*◌, ◌≤◌, List, ◌++◌, length, ℤ, arith}
 use Rattle.std.proofs.lemmas.Nat.{mul-le}
 use Rattle.std.proofs.lemmas.Bool.{le-leb}
 use Rattle.amounts.specs.Kinds.{whole_kind}
@@ -9,11 +10,7 @@ use Rattle.soils.proofs.Counts.{different_left, different_right, different-few}
 
 soils_split : (u v : List ℤ) → length u * (different u - 1) + length v * (different v - 1) ≤ length (u ++ v) * (different (u ++ v) - 1)
 soils_split u v =
-    let m = different (u ++ v) - 1 in
-    let a = mul-le (length u) (different u - 1) (length u) m (omega arith) (omega (arith, different_left 32 u v)) in
-    let b = mul-le (length v) (different v - 1) (length v) m (omega arith) (omega (arith, different_right 32 u v)) in
-    let e = ap (λ n. n * m) (length-append u v) ∙ add-mul (length u) (length v) m in
-    omega (arith, a, b, e)
+    parts_cost u v (different u - 1) (different v - 1) (different (u ++ v) - 1) (omega (arith, different_left 32 u v)) (omega (arith, different_right 32 u v))
 
 pub soils_laws : (c : ℕ) → c ≤ 1024 → ChargeLaws whole_kind (soils_rules c)
 soils_laws c few = record {

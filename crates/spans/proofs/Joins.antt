@@ -1,17 +1,11 @@
 -- Joining lists: two that overlap join to what they cover together.
-use Rattle.std.proofs.Common.{◌≡◌, ℕ, ◌+◌, ◌-◌, ◌≤◌, List, [], ◌∷◌, ◌++◌, take, drop, Some, None, Option, sym, refl, ap, ◌∙◌, ap₂, arith}
+use Rattle.readings.proofs.Segments.{cut_at}
+use Rattle.std.proofs.Common.{◌≡◌, ℕ, ◌≤◌, List, [], ◌∷◌, ◌++◌, Some, None, Option, sym, refl, ap, ◌∙◌, ap₂, arith}
 use Rattle.std.specs.List.{between}
-use Rattle.std.proofs.Math.Seq.{take-add}
-use Rattle.std.proofs.lemmas.List.{drop-drop}
 use Rattle.spans.specs.Joinings.{both, joining}
 
 pub between_split : {X : Type 0} (i m j : ℕ) (xs : List X) → i ≤ m → m ≤ j → between i j xs ≡ between i m xs ++ between m j xs
-between_split i m j xs p q =
-    let e : j - i ≡ (m - i) + (j - m) = omega arith in
-    let f : i + (m - i) ≡ m = omega arith in
-    ap (λ n. take n (drop i xs)) e
-    ∙ (take-add (m - i) (j - m) (drop i xs)
-    ∙ ap (λ l. between i m xs ++ take (j - m) l) (drop-drop (m - i) i xs ∙ ap (λ n. drop n xs) f))
+between_split i m j xs p q = cut_at xs i m j p q
 
 module _ {T : Type 0} (join : T → T → T) (assoc : (x y z : T) → join (join x y) z ≡ join x (join y z)) where
   pub both_assoc : (a b c : Option T) → both join (both join a b) c ≡ both join a (both join b c)
