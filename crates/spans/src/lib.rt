@@ -32,8 +32,17 @@ fn row_for(n: usize) -> u32
     ensures value { row_count n ≡ result + 1 }
     ensures reached { 2 ^ result ≤ n }
     ensures passed { n < 2 ^ (result + 1) }
+    ensures small { result < 64 }
 {
     n.ilog2()
+}
+
+// 2 to the power of k, by a shift: the library's `pow` multiplies in a loop, and this stands in each row of a push.
+fn power(k: u32) -> usize
+    requires small { k < 64 }
+    ensures value { result ≡ 2 ^ k }
+{
+    1 << k
 }
 
 // Joins two cells, and puts that into a third.
@@ -62,7 +71,7 @@ fn push_in<T: Joining>(cells: &mut [T], capacity: usize, count: usize, element: 
     // by the rows' numbers: each cell that is written is worked out from two of the row before, in the same slice
     for row in 0..row_for(count + 1) {
         let end = row as usize * capacity + count;
-        fill(cells, end - 2usize.pow(row), end, end + capacity);
+        fill(cells, end - power(row), end, end + capacity);
     }
 }
 
@@ -84,7 +93,7 @@ fn joined_in<T: Joining>(cells: &[T], capacity: usize, s: usize, t: usize) -> T
     ensures built { (n : ℕ) → Built T.join capacity n cells.now → t ≤ n → Ok result ≡ joined_told T.join (take n cells.now) s t }
 {
     let row = row_for(t - s);
-    let first = span_in(cells, capacity, row, s + 2usize.pow(row) - 1);
+    let first = span_in(cells, capacity, row, s + power(row) - 1);
     let last = span_in(cells, capacity, row, t - 1);
     first.joined(last)
 }

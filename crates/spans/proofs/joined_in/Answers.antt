@@ -5,7 +5,7 @@ use Rattle.spans.proofs.Spans.{joined_is}
 use Rattle.spans.proofs.joined_in.Goals as goal
 
 pub span_in-first-requires : goal.span_in-first-requires
-span_in-first-requires g c = record { inside = omega (arith, row_inside c.args.capacity c.row_for-row.result (c.args.s + c.pow.result - 1) c.requires.small (omega arith) (omega arith)) }
+span_in-first-requires g c = record { inside = omega (arith, row_inside c.args.capacity c.row_for-row.result (c.args.s + c.power.result - 1) c.requires.small (omega arith) (omega arith)) }
 
 pub span_in-last-requires : goal.span_in-last-requires
 span_in-last-requires g c = record { inside = omega (arith, row_inside c.args.capacity c.row_for-row.result (c.args.t - 1) c.requires.small (omega arith) (omega arith)) }

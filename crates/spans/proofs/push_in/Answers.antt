@@ -13,9 +13,6 @@ bounds-cells-count g c = omega (arith, cells_enough c.args.capacity c.requires.s
 pub loop-row-init : goal.loop-row-init
 loop-row-init g c = filled_first g.T.Joining.join c.args.capacity c.args.count c.args.cells.now c.args.element c.requires.small c.requires.free c.requires.room
 
-pub pow-requires : goal.pow-requires
-pow-requires g c = omega (arith, power_le c.loop-row.row c.row_for-row-end.result)
-
 pub overflow_sub-end : goal.overflow_sub-end
 overflow_sub-end g c =
     let fits = power_le (c.loop-row.row + 1) c.row_for-row-end.result (omega arith) in
@@ -31,7 +28,7 @@ fill-requires g c =
 pub loop-row-preserved : goal.loop-row-preserved
 loop-row-preserved g c =
     let fits = power_le (c.loop-row.row + 1) c.row_for-row-end.result (omega arith) in
-    filled_more g.T.Joining.join c.args.capacity c.args.count c.args.cells.now c.args.element c.requires.small c.requires.free c.requires.room c.loop-row.row c.loop-row.cells c.loop-row.invariant (omega (arith, fits)) c.pow.result c.pow.ensures c.args.element c.fill.new.cells (c.fill.ensures.after c.args.element)
+    filled_more g.T.Joining.join c.args.capacity c.args.count c.args.cells.now c.args.element c.requires.small c.requires.free c.requires.room c.loop-row.row c.loop-row.cells c.loop-row.invariant (omega (arith, fits)) c.power.result c.power.ensures.value c.args.element c.fill.new.cells (c.fill.ensures.after c.args.element)
 
 pub returns : goal.returns
 returns g c =
